@@ -1,0 +1,11 @@
+pub mod Among
+pub mod Bit
+pub mod Faults
+pub mod Fits
+pub mod Members
+pub mod Next
+pub mod Sets
+pub mod Table
+pub mod Tally
+pub mod Trailing
+pub mod Within

@@ -1,0 +1,10 @@
+pub mod Atoms
+pub mod Fault
+pub mod Listed
+pub mod Made
+pub mod Model
+pub mod Operators
+pub mod Refusal
+pub mod Strips
+pub mod StripsLaws
+pub mod Words

@@ -1,0 +1,5 @@
+mod Examples
+pub mod Keys
+pub mod Pascal
+pub mod Ranks
+pub mod Walks

@@ -1,0 +1,4 @@
+pub mod Binomials
+pub mod Marks
+pub mod Tuples
+pub mod Walk

@@ -1,0 +1,12 @@
+pub mod Between
+pub mod Chains
+pub mod Expanding
+pub mod Faithful
+pub mod Findings
+pub mod Keeping
+pub mod Lawful
+pub mod Links
+pub mod Marking
+pub mod Runs
+pub mod Steps
+pub mod Tally

@@ -1,0 +1,5 @@
+pub mod Findings
+pub mod Search
+pub mod Way
+pub mod Whole
+pub mod Width
