@@ -10,3 +10,4 @@ pub mod Marking
 pub mod Runs
 pub mod Steps
 pub mod Tally
+pub mod Searched

@@ -3,3 +3,4 @@ pub mod Search
 pub mod Way
 pub mod Whole
 pub mod Width
+pub mod Widths

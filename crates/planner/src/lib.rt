@@ -3,3 +3,4 @@ pub mod node;
 pub mod search;
 pub mod way;
 pub mod whole;
+pub mod widths;
