@@ -33,8 +33,8 @@ fn expand_level(distances: &mut [u16; 256], ops: &[Op], level: u16) {
 fn distances_from(ops: &[Op], start: u8) -> [u16; 256] {
     let mut distances = [NONE; 256];
     distances[start as usize] = 0;
-    for level in 0..256 {
-        expand_level(&mut distances, ops, level as u16);
+    for level in 0..256u16 {
+        expand_level(&mut distances, ops, level);
     }
     distances
 }
@@ -42,11 +42,11 @@ fn distances_from(ops: &[Op], start: u8) -> [u16; 256] {
 // The length of a shortest way from the start to a state with all goal atoms, or NONE.
 pub fn shortest(ops: &[Op], start: u8, goal: u8) -> usize {
     let distances = distances_from(ops, start);
-    let mut best = NONE;
-    for state in 0..256 {
+    let mut best = NONE as usize;
+    for state in 0..256usize {
         if state as u8 & goal == goal {
-            best = best.min(distances[state]);
+            best = best.min(distances[state] as usize);
         }
     }
-    best as usize
+    best
 }

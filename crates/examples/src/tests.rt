@@ -18,9 +18,9 @@ use std::test::*;
 
 fn set_of(bits: u8) -> AtomSet {
     let mut set = AtomSet::empty();
-    for atom in 0..8 {
+    for atom in 0..8u8 {
         if (bits >> atom) & 1 == 1 {
-            set.insert(atom as u8);
+            set.insert(atom);
         }
     }
     set
@@ -48,12 +48,22 @@ fn unused() -> Node<AtomSet> {
     }
 }
 
+fn table_of(ops: &[Op; 8]) -> [Action; 8] {
+    [
+        action_of(&ops[0]),
+        action_of(&ops[1]),
+        action_of(&ops[2]),
+        action_of(&ops[3]),
+        action_of(&ops[4]),
+        action_of(&ops[5]),
+        action_of(&ops[6]),
+        action_of(&ops[7]),
+    ]
+}
+
 // A whole search of eight atoms by the sets of at most `width` of them.
 fn searched(ops: &[Op; 8], start: u8, goal: u8, width: usize) -> Result<Reply, Refusal> {
-    let mut table = [action_of(&BLANK); 8];
-    for i in 0..8 {
-        table[i] = action_of(&ops[i]);
-    }
+    let table = table_of(ops);
     let model = Strips::new(8, set_of(start), set_of(goal), &table)?;
     let measure = Tuples::new(8, width)?;
     let mut nodes = [unused(); 128];
@@ -83,7 +93,7 @@ fn chain() -> [Op; 8] {
 
 #[test]
 fn chains_are_found_at_their_shortest() -> Result<(), Fail> {
-    for goal in 1..8 {
+    for goal in 1..8u8 {
         let reply = searched(&chain(), 1, 1 << goal, 1)?;
         check_eq(length_of(&reply), plain::shortest(&chain(), 1, 1 << goal))?;
         check(reply.expanded == reply.kept)?;
@@ -167,40 +177,43 @@ fn few_places_are_refused() -> Result<(), Fail> {
     check(marks[0] == 7 && marks[1] == 7 && marks[2] == 7)
 }
 
-fn refusal_of_way(result: Result<usize, Refusal>) -> Option<Refusal> {
-    match result {
-        Ok(_) => None,
-        Err(refusal) => Some(refusal),
-    }
-}
-
-// A way whose nodes a foreign hand has changed is refused, and so is one that the list has no room for.
-#[test]
-fn a_broken_way_is_refused() -> Result<(), Fail> {
+// Finds the way of the chain of three atoms, has a foreign hand write `action` into its first link, and writes the way
+// into the list: the number of the refusal, or 0.
+fn written(action: usize, list: &mut [usize]) -> Result<usize, Refusal> {
     let table = [action_of(&chain()[0]), action_of(&chain()[1])];
     let model = Strips::new(3, set_of(1), set_of(4), &table)?;
     let measure = Tuples::new(3, 1)?;
     let mut nodes = [unused(); 4];
     let mut marks = [0u8; 4];
     let reply = whole_search(&model, &measure, &mut nodes, &mut marks)?;
-    let Outcome::Found(way) = reply.outcome else {
-        return Err(Fail::new("not found"));
-    };
+    nodes[1].action = action;
+    match reply.outcome {
+        Outcome::Found(way) => write_way(&model, &nodes, &way, list),
+        Outcome::Exhausted | Outcome::Open => Ok(0),
+    }
+}
+
+fn refusal_number(result: Result<usize, Refusal>) -> usize {
+    match result {
+        Ok(_) => 0,
+        Err(refusal) => refusal.number(),
+    }
+}
+
+// A way whose nodes a foreign hand has changed is refused, and so is one that the list has no room for.
+#[test]
+fn a_broken_way_is_refused() -> Result<(), Fail> {
     let mut list = [9; 3];
-    check_eq(
-        refusal_of_way(write_way(&model, &nodes, &way, &mut list[0..1])),
-        Some(Refusal::PlanFull),
-    )?;
-    nodes[1].action = 1;
-    check_eq(
-        refusal_of_way(write_way(&model, &nodes, &way, &mut list)),
-        Some(Refusal::BrokenWay),
-    )?;
-    check(list[0] == 9 && list[1] == 9)?;
-    nodes[1].action = 0;
-    check_eq(
-        refusal_of_way(write_way(&model, &nodes, &way, &mut list)),
-        None,
-    )?;
+    check_eq(refusal_number(written(1, &mut list)), 12)?;
+    check(list[0] == 9 && list[1] == 9 && list[2] == 9)?;
+    let mut short = [9; 1];
+    check_eq(refusal_number(written(0, &mut short)), 11)?;
+    check(short[0] == 9)
+}
+
+#[test]
+fn a_way_is_written() -> Result<(), Fail> {
+    let mut list = [9; 3];
+    check_eq(refusal_number(written(0, &mut list)), 0)?;
     check(list[0] == 0 && list[1] == 1 && list[2] == 9)
 }

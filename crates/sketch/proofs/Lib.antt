@@ -1,0 +1,11 @@
+pub mod Asked
+pub mod Bounded
+pub mod Copied
+pub mod Cycle
+pub mod Plain
+pub mod Seen
+pub mod Sound
+pub mod States
+pub mod Strikes
+pub mod Values
+pub mod Worked

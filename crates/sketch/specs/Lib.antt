@@ -1,0 +1,11 @@
+pub mod Below
+pub mod Entry
+pub mod Examples
+pub mod Fault
+pub mod Feature
+pub mod Kind
+pub mod Laws
+pub mod Rule
+pub mod Sieve
+pub mod Sketch
+pub mod Words
