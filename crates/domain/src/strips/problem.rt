@@ -1,7 +1,7 @@
 // A STRIPS problem as a state model, and its maker.
 ghost use mathlib.Core.Path.{_≡_};
 ghost use denote.Ref.{now};
-ghost use Prim.Native.Nat.{_<_};
+ghost use Prim.Native.Nat.{_-_, _<_, _≤_};
 ghost use lib.ListN.{length};
 ghost use Rattle.domain.specs.Atoms.{within, limited};
 ghost use Rattle.domain.specs.Strips.{atom-count, problem-by, action-at, result};
@@ -78,6 +78,20 @@ impl Action {
 }
 
 impl<'a> Strips<'a> {
+    // The problem, of which nothing is wrong.
+    fn hold(atoms: usize, start: AtomSet, goal: AtomSet, table: &'a [Action]) -> Strips<'a>
+        requires some { ⌜ 1 ≤ atoms ⌝ }
+        requires few { ⌜ atoms ≤ 256 ⌝ }
+        ensures { λ m. ⌜ problem-by (m .highest) (m .start) (m .goal) (now (m .table)) ≡ problem-by (atoms - 1) start goal (now (table .entry)) ⌝ }
+    {
+        Strips {
+            highest: (atoms - 1) as u8,
+            start,
+            goal,
+            table,
+        }
+    }
+
     // Whether all of some atoms are true in a state; one past the highest is not.
     fn all_true(&self, needed: &AtomSet, state: &AtomSet) -> bool
         ensures { λ r. ⌜ r ≡ within (now (needed .entry)) (limited (now (state .entry)) (atom-count (now (self .entry) .highest))) ⌝ }
@@ -103,12 +117,7 @@ impl<'a> Strips<'a> {
         ensures { λ r. ⌜ StripsMade atoms start goal (now (table .entry)) r ⌝ }
     {
         match check(atoms, &start, &goal, table) {
-            Ok(()) => Ok(Strips {
-                highest: (atoms - 1) as u8,
-                start,
-                goal,
-                table,
-            }),
+            Ok(()) => Ok(Strips::hold(atoms, start, goal, table)),
             Err(refusal) => Err(refusal),
         }
     }
