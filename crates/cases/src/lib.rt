@@ -1,4 +1,6 @@
 // The cases of a stored corpus: for each a line `case NAME LENGTH`, then exactly LENGTH bytes of text, then a newline.
+#![tactic(auto)]
+
 ghost use Rattle.std.specs.Prelude.{◌<◌, length, IfSome};
 
 // A case, and the bytes behind it.

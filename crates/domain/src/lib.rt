@@ -1,4 +1,6 @@
 // Atoms, refusals and state models.
+#![tactic(auto)]
+
 pub mod atoms;
 pub mod model;
 pub mod puzzle;

@@ -1,4 +1,6 @@
 // The worked examples, as one proposition over the list of them, and tests of whole searches.
+#![tactic(auto)]
+
 ghost use Rattle.std.specs.Prelude.{◌≡◌, length};
 ghost use Rattle.std.specs.List.{AllByRecursion as All};
 ghost use Rattle.examples.specs.Counter.{CounterAdmissible};

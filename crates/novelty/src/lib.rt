@@ -1,4 +1,6 @@
 // Novelty measures.
+#![tactic(auto)]
+
 mod binomials;
 mod marks;
 pub mod measure;

@@ -1,4 +1,6 @@
 // Novelty searches over state models, in memory that the caller lends.
+#![tactic(auto)]
+
 pub mod node;
 mod search;
 pub mod stepwise;

@@ -18,7 +18,7 @@ fn try_action<D: StateModel, M: Measure>(
     action: usize,
 )
     requires { count ≤ length nodes.old }
-    ensures { snap nodes.new marks.new progress.new ≡ tried (task (meaning model.now) (keys measure.now) count) state (snap nodes.old marks.old progress.old) action }
+    ensures { snap nodes.new marks.new progress.new ≡ tried (task (D.meaning model.now) (M.keys measure.now) count) state (snap nodes.old marks.old progress.old) action }
 {
     if !model.applies(state, action) {
         return;
@@ -54,7 +54,7 @@ fn try_actions<D: StateModel, M: Measure>(
     state: D::State,
 )
     requires { count ≤ length nodes.old }
-    ensures { snap nodes.new marks.new progress.new ≡ tried_from (task (meaning model.now) (keys measure.now) count) state (snap nodes.old marks.old progress.old) 0 (meaning model.now).actions }
+    ensures { snap nodes.new marks.new progress.new ≡ tried_from (task (D.meaning model.now) (M.keys measure.now) count) state (snap nodes.old marks.old progress.old) 0 (D.meaning model.now).actions }
 {
     let actions = model.actions();
     for action in 0..actions {
@@ -77,7 +77,7 @@ fn expand<D: StateModel, M: Measure>(
     requires places { count ≤ length nodes.old }
     requires waiting { progress.old.expanded < progress.old.kept }
     requires held { progress.old.kept ≤ count }
-    ensures { snap nodes.new marks.new progress.new ≡ expand_next (task (meaning model.now) (keys measure.now) count) (snap nodes.old marks.old progress.old) }
+    ensures { snap nodes.new marks.new progress.new ≡ expand_next (task (D.meaning model.now) (M.keys measure.now) count) (snap nodes.old marks.old progress.old) }
 {
     let state = nodes[progress.expanded].state;
     try_actions(model, measure, count, nodes, marks, progress, state);
@@ -103,7 +103,7 @@ pub(crate) fn advance<D: StateModel, M: Measure>(
 )
     requires places { count ≤ length nodes.old }
     requires held { progress.old.kept ≤ count }
-    ensures { snap nodes.new marks.new progress.new ≡ advanced (task (meaning model.now) (keys measure.now) count) budget (snap nodes.old marks.old progress.old) }
+    ensures { snap nodes.new marks.new progress.new ≡ advanced (task (D.meaning model.now) (M.keys measure.now) count) budget (snap nodes.old marks.old progress.old) }
 {
     for done in 0..budget {
         if !goes_on(progress) {
@@ -130,9 +130,9 @@ pub(crate) fn begin<D: StateModel, M: Measure>(
     nodes: &mut [Node<D::State>],
     marks: &mut [u8],
 ) -> Progress
-    requires nodes { total measure.now ≤ length nodes.old }
-    requires marks { total measure.now ≤ length marks.old }
-    ensures { snap nodes.new marks.new result ≡ begun (task (meaning model.now) (keys measure.now) (total measure.now)) nodes.old marks.old }
+    requires nodes { M.total measure.now ≤ length nodes.old }
+    requires marks { M.total measure.now ≤ length marks.old }
+    ensures { snap nodes.new marks.new result ≡ begun (task (D.meaning model.now) (M.keys measure.now) (M.total measure.now)) nodes.old marks.old }
 {
     clear_marks(marks, measure.count());
     let start = model.start();

@@ -67,7 +67,7 @@ fn action_at<S>(nodes: &[Node<S>], way: &Way, step: usize) -> usize
 fn leads_to_target<D: StateModel>(model: &D, nodes: &[Node<D::State>], way: &Way) -> bool
     requires link { way.now.parent < length nodes.now }
     requires long { length (actions_of nodes.now way.now) ≡ way.now.length }
-    ensures { result ≡ runs_to_target (meaning model.now) (meaning model.now).start (actions_of nodes.now way.now) }
+    ensures { result ≡ runs_to_target (D.meaning model.now) (D.meaning model.now).start (actions_of nodes.now way.now) }
 {
     let mut state = model.start();
     for step in 0..way.length {
@@ -82,7 +82,7 @@ fn leads_to_target<D: StateModel>(model: &D, nodes: &[Node<D::State>], way: &Way
 
 // The way's links are there and lead back to 0, it has its length, runs and ends in a target.
 fn way_holds<D: StateModel>(model: &D, nodes: &[Node<D::State>], way: &Way) -> bool
-    ensures { result ≡ way_holds (meaning model.now) nodes.now way.now }
+    ensures { result ≡ way_holds (D.meaning model.now) nodes.now way.now }
 {
     if way.parent >= nodes.len() {
         return false;
@@ -117,8 +117,8 @@ pub fn write_way<D: StateModel>(
     way: &Way,
     list: &mut [usize],
 ) -> Result<usize, Refusal>
-    ensures reply { result ≡ written_reply (way_fault (meaning model.now) nodes.now way.now (length list.old)) way.now.length }
-    ensures after { list.new ≡ written_list (way_fault (meaning model.now) nodes.now way.now (length list.old)) (actions_of nodes.now way.now) list.old }
+    ensures reply { result ≡ written_reply (way_fault (D.meaning model.now) nodes.now way.now (length list.old)) way.now.length }
+    ensures after { list.new ≡ written_list (way_fault (D.meaning model.now) nodes.now way.now (length list.old)) (actions_of nodes.now way.now) list.old }
 {
     if list.len() < way.length {
         return Err(Refusal::PlanFull);
@@ -132,7 +132,7 @@ pub fn write_way<D: StateModel>(
 
 // Where a list of actions leads from a state: each in turn, and one that does not apply leaves the state.
 pub fn follow<D: StateModel>(model: &D, from: D::State, actions: &[usize]) -> D::State
-    ensures { result ≡ end_of (meaning model.now) from actions.now }
+    ensures { result ≡ end_of (D.meaning model.now) from actions.now }
 {
     let mut state = from;
     for action in actions {

@@ -39,12 +39,12 @@ fn search_to_end<D: StateModel, M: Measure>(
     nodes: &mut [Node<D::State>],
     marks: &mut [u8],
 ) -> Progress
-    requires nodes { total measure.now ≤ length nodes.old }
-    requires marks { total measure.now ≤ length marks.old }
-    requires start { (meaning model.now).target (meaning model.now).start ≡ false }
-    ensures value { snap nodes.new marks.new result ≡ at_end (task (meaning model.now) (keys measure.now) (total measure.now)) nodes.old marks.old }
+    requires nodes { M.total measure.now ≤ length nodes.old }
+    requires marks { M.total measure.now ≤ length marks.old }
+    requires start { (D.meaning model.now).target (D.meaning model.now).start ≡ false }
+    ensures value { snap nodes.new marks.new result ≡ at_end (task (D.meaning model.now) (M.keys measure.now) (M.total measure.now)) nodes.old marks.old }
     ensures within { Within (length nodes.new) result.met }
-    ensures findings { WholeFindings (task (meaning model.now) (keys measure.now) (total measure.now)) nodes.old marks.old nodes.new (reply_by nodes.new result.met result.expanded result.kept) }
+    ensures findings { WholeFindings (task (D.meaning model.now) (M.keys measure.now) (M.total measure.now)) nodes.old marks.old nodes.new (reply_by nodes.new result.met result.expanded result.kept) }
 {
     let count = measure.count();
     let mut progress = begin(model, measure, nodes, marks);
@@ -60,10 +60,10 @@ pub fn whole_search<D: StateModel, M: Measure>(
     nodes: &mut [Node<D::State>],
     marks: &mut [u8],
 ) -> Result<Reply, Refusal>
-    ensures value { result ≡ search_reply (search_fault (task (meaning model.now) (keys measure.now) (total measure.now)) nodes.old marks.old) (at_end (task (meaning model.now) (keys measure.now) (total measure.now)) nodes.old marks.old) }
-    ensures nodes { nodes.new ≡ search_nodes (search_fault (task (meaning model.now) (keys measure.now) (total measure.now)) nodes.old marks.old) (at_end (task (meaning model.now) (keys measure.now) (total measure.now)) nodes.old marks.old) nodes.old }
-    ensures marks { marks.new ≡ search_marks (search_fault (task (meaning model.now) (keys measure.now) (total measure.now)) nodes.old marks.old) (at_end (task (meaning model.now) (keys measure.now) (total measure.now)) nodes.old marks.old) marks.old }
-    ensures findings { (reply : Reply) → result ≡ Ok reply → WholeFindings (task (meaning model.now) (keys measure.now) (total measure.now)) nodes.old marks.old nodes.new reply }
+    ensures value { result ≡ search_reply (search_fault (task (D.meaning model.now) (M.keys measure.now) (M.total measure.now)) nodes.old marks.old) (at_end (task (D.meaning model.now) (M.keys measure.now) (M.total measure.now)) nodes.old marks.old) }
+    ensures nodes { nodes.new ≡ search_nodes (search_fault (task (D.meaning model.now) (M.keys measure.now) (M.total measure.now)) nodes.old marks.old) (at_end (task (D.meaning model.now) (M.keys measure.now) (M.total measure.now)) nodes.old marks.old) nodes.old }
+    ensures marks { marks.new ≡ search_marks (search_fault (task (D.meaning model.now) (M.keys measure.now) (M.total measure.now)) nodes.old marks.old) (at_end (task (D.meaning model.now) (M.keys measure.now) (M.total measure.now)) nodes.old marks.old) marks.old }
+    ensures findings { (reply : Reply) → result ≡ Ok reply → WholeFindings (task (D.meaning model.now) (M.keys measure.now) (M.total measure.now)) nodes.old marks.old nodes.new reply }
 {
     if model.is_target(model.start()) {
         return Err(Refusal::AtTarget);

@@ -25,10 +25,10 @@ pub fn width_search<D: StateModel>(
     nodes: &mut [Node<D::State>],
     marks: &mut [u8],
 ) -> Result<Reply, Refusal>
-    ensures value { result ≡ search_reply (width_fault (meaning model.now) width nodes.old marks.old) (at_end (tuple_task (meaning model.now) width) nodes.old marks.old) }
-    ensures nodes { nodes.new ≡ search_nodes (width_fault (meaning model.now) width nodes.old marks.old) (at_end (tuple_task (meaning model.now) width) nodes.old marks.old) nodes.old }
-    ensures marks { marks.new ≡ search_marks (width_fault (meaning model.now) width nodes.old marks.old) (at_end (tuple_task (meaning model.now) width) nodes.old marks.old) marks.old }
-    ensures searched { (reply : Reply) → result ≡ Ok reply → Searched (meaning model.now) width nodes.new reply }
+    ensures value { result ≡ search_reply (width_fault (D.meaning model.now) width nodes.old marks.old) (at_end (tuple_task (D.meaning model.now) width) nodes.old marks.old) }
+    ensures nodes { nodes.new ≡ search_nodes (width_fault (D.meaning model.now) width nodes.old marks.old) (at_end (tuple_task (D.meaning model.now) width) nodes.old marks.old) nodes.old }
+    ensures marks { marks.new ≡ search_marks (width_fault (D.meaning model.now) width nodes.old marks.old) (at_end (tuple_task (D.meaning model.now) width) nodes.old marks.old) marks.old }
+    ensures searched { (reply : Reply) → result ≡ Ok reply → Searched (D.meaning model.now) width nodes.new reply }
 {
     let measure = Tuples::new(model.atoms(), width)?;
     whole_search(model, &measure, nodes, marks)
@@ -49,7 +49,7 @@ pub fn try_widths<D: StateModel>(
     marks: &mut [u8],
     plan: &mut [usize],
 ) -> Result<Attempts, Refusal>
-    ensures { Answered (meaning model.now) nodes.old marks.old plan.old nodes.new plan.new result }
+    ensures { Answered (D.meaning model.now) nodes.old marks.old plan.old nodes.new plan.new result }
 {
     let mut attempts = Attempts {
         replies: [UNMADE; 3],

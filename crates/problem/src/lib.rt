@@ -1,4 +1,6 @@
 // Problem texts: what a text means, and the reader that finds it out.
+#![tactic(auto)]
+
 pub mod fault;
 mod form;
 pub mod laws;

@@ -1,5 +1,7 @@
 // Reads each text of a stored corpus, and prints a line for it: its name, the refusal's number and place, both 0 for a good
 // text, and behind those of a good one how many atoms, actions, features and rules it has.
+#![tactic(auto)]
+
 use anyhow::anyhow;
 use cases::{Case, next_case};
 use domain::atoms::AtomSet;

@@ -1,5 +1,7 @@
 // What the programs do with a problem text and what they print: a line a search and a line a step of the plan, or the
 // refusal alone.
+#![tactic(auto)]
+
 use domain::atoms::AtomSet;
 use domain::refusal::Refusal;
 use domain::strips::{Action, Strips};

@@ -1,5 +1,7 @@
 // Solves a problem text along its sketch, and prints the searches and the plan, or the refusal.
 // The text comes from standard input, or from the file that the argument names.
+#![tactic(auto)]
+
 use anyhow::anyhow;
 use domain::refusal::Refusal;
 use report::{PLACES, ROWS, blank_row, print_result, solve_text};

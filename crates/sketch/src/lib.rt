@@ -1,4 +1,6 @@
 // Sketches: features, rules over them, and the sieve that shows that no run along the rules returns.
+#![tactic(auto)]
+
 pub mod feature;
 pub mod held;
 pub mod laws;

@@ -16,7 +16,7 @@ pub struct Subproblem<'a, D: StateModel> {
 impl<'a, D: StateModel> Subproblem<'a, D> {
     // The model `below` from the state `origin` on.
     pub fn new(below: &'a D, sketch: &'a Sketch, origin: D::State) -> Subproblem<'a, D>
-        ensures { subproblem (meaning result.below.now) result.sketch.now result.origin ≡ subproblem (meaning below.now) sketch.now origin }
+        ensures { subproblem (D.meaning result.below.now) result.sketch.now result.origin ≡ subproblem (D.meaning below.now) sketch.now origin }
     {
         Subproblem {
             below,
@@ -29,9 +29,9 @@ impl<'a, D: StateModel> Subproblem<'a, D> {
 impl<'a, D: StateModel> StateModel for Subproblem<'a, D> {
     type State = D::State;
 
-    ghost meaning = { λ m. subproblem (D.StateModel.meaning m.below.now) m.sketch.now m.origin };
+    ghost meaning = { λ m. subproblem (D.meaning m.below.now) m.sketch.now m.origin };
 
-    ghost lawful = { λ m. subproblem_lawful (D.StateModel.meaning m.below.now) m.sketch.now m.origin (D.StateModel.lawful m.below.now) };
+    ghost lawful = { λ m. subproblem_lawful (D.meaning m.below.now) m.sketch.now m.origin (D.lawful m.below.now) };
 
     fn atoms(&self) -> usize {
         self.below.atoms()

@@ -1,4 +1,6 @@
 // Solves a built-in scrambled board of the sliding puzzle by searches of rising width, and prints the searches and the plan.
+#![tactic(auto)]
+
 use domain::puzzle::{Board, Puzzle};
 use domain::refusal::Refusal;
 use planner::node::Node;

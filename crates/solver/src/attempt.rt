@@ -29,8 +29,8 @@ fn spend_refused<X, C: Claim>(reply: Result<X, Refused<C>>) -> Result<X, Refusal
 
 // Ends the open search with nothing adopted; such a search adds no step.
 fn give_up<D: StateModel, C: Claim>(run: &mut Run<D, Tuples>, claim: C) -> Result<usize, Refusal>
-    ensures reply { result ≡ told (abandon_fault (view meaning run.old) (kind claim) (numbered claim)) 0 }
-    ensures run { view meaning run.new ≡ unless (abandon_fault (view meaning run.old) (kind claim) (numbered claim)) (view meaning run.old) (closed_run (view meaning run.old)) }
+    ensures reply { result ≡ told (abandon_fault (view D.meaning run.old) (C.kind claim) (C.numbered claim)) 0 }
+    ensures run { view D.meaning run.new ≡ unless (abandon_fault (view D.meaning run.old) (C.kind claim) (C.numbered claim)) (view D.meaning run.old) (closed_run (view D.meaning run.old)) }
 {
     spend_refused(run.abandon(claim))?;
     Ok(0)
@@ -43,9 +43,9 @@ fn settle<D: StateModel>(
     nodes: &[Node<D::State>],
     plan: &mut [usize],
 ) -> Result<usize, Refusal>
-    ensures reply { result ≡ told (settle_fault (view meaning run.old) claim nodes.now (length plan.old)) (settled_length (view meaning run.old) claim) }
-    ensures run { view meaning run.new ≡ unless (settle_fault (view meaning run.old) claim nodes.now (length plan.old)) (view meaning run.old) (settled_run (view meaning run.old) claim nodes.now) }
-    ensures plan { plan.new ≡ unless (settle_fault (view meaning run.old) claim nodes.now (length plan.old)) plan.old (settled_plan (view meaning run.old) claim nodes.now plan.old) }
+    ensures reply { result ≡ told (settle_fault (view D.meaning run.old) claim nodes.now (length plan.old)) (settled_length (view D.meaning run.old) claim) }
+    ensures run { view D.meaning run.new ≡ unless (settle_fault (view D.meaning run.old) claim nodes.now (length plan.old)) (view D.meaning run.old) (settled_run (view D.meaning run.old) claim nodes.now) }
+    ensures plan { plan.new ≡ unless (settle_fault (view D.meaning run.old) claim nodes.now (length plan.old)) plan.old (settled_plan (view D.meaning run.old) claim nodes.now plan.old) }
 {
     match claim {
         Progressed::Open(ticket) => give_up(run, ticket),
@@ -62,10 +62,10 @@ fn search_here<D: StateModel>(
     nodes: &mut [Node<D::State>],
     marks: &mut [u8],
 ) -> Result<Work, Refusal>
-    ensures reply { result ≡ told (opening_fault atoms width (view meaning run.old) (length nodes.old) (length marks.old)) (worked_reply (view meaning run.old) (run.old.searches + 1) (ended atoms width (view meaning run.old) nodes.old marks.old)) }
-    ensures run { (work : Work) → result ≡ Ok work → SearchedOut atoms width (view meaning run.old) (ended atoms width (view meaning run.old) nodes.old marks.old) (view meaning run.new) }
-    ensures nodes { nodes.new ≡ nodes_after atoms width (view meaning run.old) nodes.old marks.old }
-    ensures marks { marks.new ≡ marks_after atoms width (view meaning run.old) nodes.old marks.old }
+    ensures reply { result ≡ told (opening_fault atoms width (view D.meaning run.old) (length nodes.old) (length marks.old)) (worked_reply (view D.meaning run.old) (run.old.searches + 1) (ended atoms width (view D.meaning run.old) nodes.old marks.old)) }
+    ensures run { (work : Work) → result ≡ Ok work → SearchedOut atoms width (view D.meaning run.old) (ended atoms width (view D.meaning run.old) nodes.old marks.old) (view D.meaning run.new) }
+    ensures nodes { nodes.new ≡ nodes_after atoms width (view D.meaning run.old) nodes.old marks.old }
+    ensures marks { marks.new ≡ marks_after atoms width (view D.meaning run.old) nodes.old marks.old }
 {
     let measure = Tuples::new(atoms, width)?;
     let budget = measure.count();
@@ -83,11 +83,11 @@ pub(crate) fn attempt<D: StateModel>(
     marks: &mut [u8],
     plan: &mut [usize],
 ) -> Result<Row, Refusal>
-    ensures reply { result ≡ told (attempt_fault atoms width (view meaning run.old) nodes.old marks.old plan.old) (row_of number width (ended atoms width (view meaning run.old) nodes.old marks.old)) }
-    ensures run { (row : Row) → result ≡ Ok row → view meaning run.new ≡ run_after atoms width (view meaning run.old) (ended atoms width (view meaning run.old) nodes.old marks.old) }
-    ensures nodes { nodes.new ≡ nodes_after atoms width (view meaning run.old) nodes.old marks.old }
-    ensures marks { marks.new ≡ marks_after atoms width (view meaning run.old) nodes.old marks.old }
-    ensures plan { plan.new ≡ plan_after atoms width (view meaning run.old) nodes.old marks.old plan.old }
+    ensures reply { result ≡ told (attempt_fault atoms width (view D.meaning run.old) nodes.old marks.old plan.old) (row_of number width (ended atoms width (view D.meaning run.old) nodes.old marks.old)) }
+    ensures run { (row : Row) → result ≡ Ok row → view D.meaning run.new ≡ run_after atoms width (view D.meaning run.old) (ended atoms width (view D.meaning run.old) nodes.old marks.old) }
+    ensures nodes { nodes.new ≡ nodes_after atoms width (view D.meaning run.old) nodes.old marks.old }
+    ensures marks { marks.new ≡ marks_after atoms width (view D.meaning run.old) nodes.old marks.old }
+    ensures plan { plan.new ≡ plan_after atoms width (view D.meaning run.old) nodes.old marks.old plan.old }
 {
     let Work {
         claim,

@@ -1,4 +1,6 @@
 // The solver: a plan by searches of rising width, subproblem after subproblem of a sketch, until a target.
+#![tactic(auto)]
+
 mod attempt;
 pub mod report;
 pub mod solve;

@@ -40,12 +40,12 @@ pub fn solve<D: StateModel + Drop>(
     plan: &mut [usize],
     rows: &mut [Row],
 ) -> Result<Report, Refusal>
-    ensures reply { result ≡ (solved (meaning model) sketch (memory nodes.old marks.old plan.old rows.old)).reply }
-    ensures nodes { nodes.new ≡ (solved (meaning model) sketch (memory nodes.old marks.old plan.old rows.old)).left.nodes }
-    ensures marks { marks.new ≡ (solved (meaning model) sketch (memory nodes.old marks.old plan.old rows.old)).left.marks }
-    ensures plan { plan.new ≡ (solved (meaning model) sketch (memory nodes.old marks.old plan.old rows.old)).left.plan }
-    ensures rows { rows.new ≡ (solved (meaning model) sketch (memory nodes.old marks.old plan.old rows.old)).left.rows }
-    ensures reported { (told : Report) → result ≡ Ok told → Reported (meaning model) sketch told plan.new rows.new }
+    ensures reply { result ≡ (solved (D.meaning model) sketch (memory nodes.old marks.old plan.old rows.old)).reply }
+    ensures nodes { nodes.new ≡ (solved (D.meaning model) sketch (memory nodes.old marks.old plan.old rows.old)).left.nodes }
+    ensures marks { marks.new ≡ (solved (D.meaning model) sketch (memory nodes.old marks.old plan.old rows.old)).left.marks }
+    ensures plan { plan.new ≡ (solved (D.meaning model) sketch (memory nodes.old marks.old plan.old rows.old)).left.plan }
+    ensures rows { rows.new ≡ (solved (D.meaning model) sketch (memory nodes.old marks.old plan.old rows.old)).left.rows }
+    ensures reported { (told : Report) → result ≡ Ok told → Reported (D.meaning model) sketch told plan.new rows.new }
 {
     let atoms = model.atoms();
     let mut run: Run<D, Tuples> = Run::new(model, sketch);

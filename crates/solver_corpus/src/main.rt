@@ -1,5 +1,7 @@
 // Solves each problem text of a stored corpus, and prints for each the line `case NAME`, what the solving program prints for
 // that text, and an empty line.
+#![tactic(auto)]
+
 use anyhow::anyhow;
 use cases::{Case, next_case};
 use report::{PLACES, ROWS, blank_row, print_result, solve_text};

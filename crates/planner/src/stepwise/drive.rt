@@ -28,10 +28,10 @@ impl<M: Measure + Drop> Search<M> {
         nodes: &mut [Node<D::State>],
         marks: &mut [u8],
     ) -> Result<Search<M>, Refusal>
-        ensures reply { elim result [ Ok s ↦ standing s ≡ started measure (total measure) | Err e ↦ e ≡ FewPlaces ] }
-        ensures refused { is_ok result ≡ not (lacks (total measure) (length nodes.old) (length marks.old)) }
-        ensures nodes { nodes.new ≡ (if lacks (total measure) (length nodes.old) (length marks.old) then nodes.old else (begun (task (meaning model.now) (keys measure) (total measure)) nodes.old marks.old).nodes) }
-        ensures marks { marks.new ≡ (if lacks (total measure) (length nodes.old) (length marks.old) then marks.old else (begun (task (meaning model.now) (keys measure) (total measure)) nodes.old marks.old).marks) }
+        ensures reply { elim result [ Ok s ↦ standing s ≡ started measure (M.total measure) | Err e ↦ e ≡ FewPlaces ] }
+        ensures refused { is_ok result ≡ not (lacks (M.total measure) (length nodes.old) (length marks.old)) }
+        ensures nodes { nodes.new ≡ (if lacks (M.total measure) (length nodes.old) (length marks.old) then nodes.old else (begun (task (D.meaning model.now) (M.keys measure) (M.total measure)) nodes.old marks.old).nodes) }
+        ensures marks { marks.new ≡ (if lacks (M.total measure) (length nodes.old) (length marks.old) then marks.old else (begun (task (D.meaning model.now) (M.keys measure) (M.total measure)) nodes.old marks.old).marks) }
     {
         let count = measure.count();
         if are_few(count, nodes, marks) {
@@ -55,10 +55,10 @@ impl<M: Measure + Drop> Search<M> {
         marks: &mut [u8],
         budget: usize,
     ) -> Result<Reply, Refusal>
-        ensures reply { result ≡ advance_reply (worked_on (meaning model.now) keys budget (standing self.old) nodes.old marks.old) (lacks self.old.count (length nodes.old) (length marks.old)) }
-        ensures search { standing self.new ≡ (if lacks self.old.count (length nodes.old) (length marks.old) then standing self.old else moved_on (standing self.old) (worked_on (meaning model.now) keys budget (standing self.old) nodes.old marks.old)) }
-        ensures nodes { nodes.new ≡ (if lacks self.old.count (length nodes.old) (length marks.old) then nodes.old else (worked_on (meaning model.now) keys budget (standing self.old) nodes.old marks.old).nodes) }
-        ensures marks { marks.new ≡ (if lacks self.old.count (length nodes.old) (length marks.old) then marks.old else (worked_on (meaning model.now) keys budget (standing self.old) nodes.old marks.old).marks) }
+        ensures reply { result ≡ advance_reply (worked_on (D.meaning model.now) M.keys budget (standing self.old) nodes.old marks.old) (lacks self.old.count (length nodes.old) (length marks.old)) }
+        ensures search { standing self.new ≡ (if lacks self.old.count (length nodes.old) (length marks.old) then standing self.old else moved_on (standing self.old) (worked_on (D.meaning model.now) M.keys budget (standing self.old) nodes.old marks.old)) }
+        ensures nodes { nodes.new ≡ (if lacks self.old.count (length nodes.old) (length marks.old) then nodes.old else (worked_on (D.meaning model.now) M.keys budget (standing self.old) nodes.old marks.old).nodes) }
+        ensures marks { marks.new ≡ (if lacks self.old.count (length nodes.old) (length marks.old) then marks.old else (worked_on (D.meaning model.now) M.keys budget (standing self.old) nodes.old marks.old).marks) }
     {
         let count = self.count;
         if are_few(count, nodes, marks) {

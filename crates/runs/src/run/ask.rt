@@ -31,7 +31,7 @@ impl<D: StateModel, M: Measure + Drop> Run<D, M> {
 
     // Whether the adopted segments lead to a target of the model.
     pub fn at_target(&self) -> bool
-        ensures { result ≡ (meaning self.now.model).target self.now.current }
+        ensures { result ≡ (D.meaning self.now.model).target self.now.current }
     {
         self.model.is_target(self.current)
     }

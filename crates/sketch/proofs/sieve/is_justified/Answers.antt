@@ -12,6 +12,6 @@ same e p q r i = one_way (p i) e (q i) (r i)
 pub returns : goal.returns
 unfolding justifies
 returns c =
-    c.moves-one-way.ensures
+    c.moves_one_way.ensures
     ∙ same (entry_at c.args.rule.now c.args.feature) (kind_read c.args.features.now c.args.feature _ c.requires.inside.0)
-    c.is-raised-raised.ensures c.is-lowered-lowered.ensures
+    c.is_raised-raised.ensures c.is_lowered-lowered.ensures

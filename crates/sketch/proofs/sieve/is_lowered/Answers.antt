@@ -4,19 +4,19 @@ use Rattle.sketch.specs.Sieve.{may_lower, lowered}
 use Rattle.sketch.proofs.Bounded.{none_from}
 use Rattle.sketch.proofs.Seen.{seen_yes, seen_no}
 use Rattle.sketch.proofs.sieve.is_lowered.Goals as goal
-use Rattle.sketch.proofs.sieve.is_lowered.Goals.{else-left-i-via-then-left-i+else-may-lower, else-left-i-via-else-left-i}
+use Rattle.sketch.proofs.sieve.is_lowered.Goals.{else-left-i-via-then-left-i+else-may_lower, else-left-i-via-else-left-i}
 
-pub returns-then-may-lower : goal.returns-then-may-lower
+pub returns-then-may_lower : goal.returns-then-may_lower
 unfolding lowered
-returns-then-may-lower c =
+returns-then-may_lower c =
     sym (seen_yes may_lower c.args.features.now c.args.rules.now c.args.left.now c.args.feature _ c.requires.inside.0
-    c.loop-i.i _ c.loop-i-test.true c.if-left-i.true c.may_lower.ensures c.if-may-lower.true)
+    c.loop-i.i _ c.loop-i-test.true c.if-left-i.true c.may_lower.ensures c.if-may_lower.true)
 
 pub loop-i-preserved : goal.loop-i-preserved
 loop-i-preserved c = below_more _ _ c.loop-i.invariant (elim c.else-left-i.branch [
-  | else-left-i-via-then-left-i+else-may-lower w ↦
+  | else-left-i-via-then-left-i+else-may_lower w ↦
       seen_no may_lower c.args.features.now c.args.rules.now c.args.left.now c.args.feature _ c.requires.inside.0
-      c.loop-i.i _ w.may_lower.ensures w.if-may-lower.false
+      c.loop-i.i _ w.may_lower.ensures w.if-may_lower.false
   | else-left-i-via-else-left-i w ↦ and_left _ _ w.if-left-i.false
 ])
 

@@ -9,11 +9,11 @@ pub returns-then-not-left-i : goal.returns-then-not-left-i
 unfolding strikable
 returns-then-not-left-i c = sym (and_left _ _ c.if-not-left-i.true)
 
-pub returns-then-is-justified : goal.returns-then-is-justified
+pub returns-then-is_justified : goal.returns-then-is_justified
 unfolding strikable
-returns-then-is-justified c =
+returns-then-is_justified c =
     sym (and_from _ _ c.if-not-left-i.false
-    (some_from _ _ c.loop-feature.feature (omega (arith, length_kinds c.args.features.now)) (sym c.is-justified.ensures ∙ c.if-is-justified.true)))
+    (some_from _ _ c.loop-feature.feature (omega (arith, length_kinds c.args.features.now)) (sym c.is_justified.ensures ∙ c.if-is_justified.true)))
 
 pub returns : goal.returns
 unfolding strikable

@@ -11,4 +11,4 @@ returns c =
     let rs = c.args.rules.now in
     let start : take (length rs - 0) (replicate 16 true) ≡ whole rs =
     ap (λ (n : ℕ). take n (replicate 16 true)) (let e : length rs - 0 ≡ length rs = omega arith in e) ∙ take-replicate (length rs) 16 true (omega arith) in
-    c.count-flags.ensures ∙ ap flagged (c.strike-all.ensures ∙ ap (strikes ks rs (length rs)) start)
+    c.count_flags.ensures ∙ ap flagged (c.strike_all.ensures ∙ ap (strikes ks rs (length rs)) start)

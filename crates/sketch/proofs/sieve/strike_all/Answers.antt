@@ -17,11 +17,11 @@ pub loop-turn-preserved : goal.loop-turn-preserved
 loop-turn-preserved c =
     let ks = kinds_of c.args.features.now in
     let rs = c.args.rules.now in
-    ap (λ (x : ℕ). strikes ks rs (length rs - (c.loop-turn.-turn + 1)) (set c.loop-turn.left x false)) c.lowest-strikable-i.ensures
-    ∙ sym (strikes_more ks rs (length rs) c.loop-turn.-turn c.loop-turn.left c.loop-turn-test.true)
+    ap (λ (x : ℕ). strikes ks rs (length rs - (c.loop-turn._turn + 1)) (set c.loop-turn.left x false)) c.lowest_strikable-i.ensures
+    ∙ sym (strikes_more ks rs (length rs) c.loop-turn._turn c.loop-turn.left c.loop-turn-test.true)
     ∙ c.loop-turn.invariant
 
 pub returns : goal.returns
 returns c =
-    sym (strikes_all (kinds_of c.args.features.now) c.args.rules.now _ c.loop-turn.-turn c.loop-turn.left c.loop-turn-test.false)
+    sym (strikes_all (kinds_of c.args.features.now) c.args.rules.now _ c.loop-turn._turn c.loop-turn.left c.loop-turn-test.false)
     ∙ c.loop-turn.invariant

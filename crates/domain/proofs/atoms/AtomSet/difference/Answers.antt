@@ -7,8 +7,8 @@ pub returns : goal.returns
 returns c =
     let s = c.args.self.now in
     let t = c.args.other.now in
-    let told = c.and-not.ensures in
+    let told = c.and_not.ensures in
     record {
       value = search rules;
-      membership = λ a. has_row c.and-not.result (without s t) told.value a ∙ has_without s t (sized_from_short t told.short) a;
+      membership = λ a. has_row c.and_not.result (without s t) told.value a ∙ has_without s t (sized_from_short t told.short) a;
     }

@@ -10,5 +10,5 @@ returns c =
     let long : length s.words ≡ 4 = search rules in
     record {
       after = search rules;
-      membership = λ a. has_row c.set-bit.new.row (with_atom s x) c.set-bit.ensures a ∙ has_with_atom s long x (omega arith) a;
+      membership = λ a. has_row c.set_bit.new.row (with_atom s x) c.set_bit.ensures a ∙ has_with_atom s long x (omega arith) a;
     }

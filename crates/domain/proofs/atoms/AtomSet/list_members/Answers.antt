@@ -6,8 +6,8 @@ use Rattle.domain.proofs.Members.{has_below, kept_to_first, members_up_to}
 use Rattle.domain.proofs.Tally.{kept_le}
 use Rattle.domain.proofs.atoms.AtomSet.list_members.Goals as goal
 
-pub offset-bounds-list-count : goal.offset-bounds-list-count
-offset-bounds-list-count c =
+pub offset_bounds-list-count : goal.offset_bounds-list-count
+offset_bounds-list-count c =
     let first = c.in-Some.ensures in
     omega (arith, kept_le (has c.args.self.now) c.loop-atom.from, first.0, has_below c.args.self.now c.in-Some.atom first.1)
 
@@ -16,8 +16,8 @@ bounds-list-count c =
     let first = c.in-Some.ensures in
     omega (arith, kept_le (has c.args.self.now) c.loop-atom.from, first.0, has_below c.args.self.now c.in-Some.atom first.1)
 
-pub overflow-add-count : goal.overflow-add-count
-overflow-add-count c =
+pub overflow_add-count : goal.overflow_add-count
+overflow_add-count c =
     let first = c.in-Some.ensures in
     omega (arith, kept_le (has c.args.self.now) c.loop-atom.from, first.0, has_below c.args.self.now c.in-Some.atom first.1)
 
@@ -47,7 +47,7 @@ loop-atom-preserved c =
 pub returns : goal.returns
 returns c =
     let s = c.args.self.now in
-    let all = members_up_to s c.loop-atom.from c.loop-atom.invariant.0 c.in-default.ensures in
+    let all = members_up_to s c.loop-atom.from c.loop-atom.invariant.0 c.in_default.ensures in
     record {
       value = c.loop-atom.invariant.1 ∙ sym (ap length all);
       after = c.loop-atom.invariant.2 ∙ ap (λ (ys : List ℕ). ys ++ drop c.loop-atom.count c.args.list.now) (sym all);

@@ -4,8 +4,8 @@ use Rattle.std.proofs.lemmas.Bool.{cases_lt}
 use Rattle.domain.proofs.Next.{rest_at, none_in_word, next_in_word, next_first, first_from_later}
 use Rattle.domain.proofs.atoms.AtomSet.next_from.Goals as goal
 
-pub overflow-cast-result-then-rest-ne0 : goal.overflow-cast-result-then-rest-ne0
-overflow-cast-result-then-rest-ne0 c =
+pub overflow_cast-result-then-rest-ne0 : goal.overflow_cast-result-then-rest-ne0
+overflow_cast-result-then-rest-ne0 c =
     let s = c.args.self.now in
     let at = c.loop-at.at in
     let some : 0 < rest_at s at = omega arith in

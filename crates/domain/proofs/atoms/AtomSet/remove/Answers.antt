@@ -10,5 +10,5 @@ returns c =
     let long : length s.words ≡ 4 = search rules in
     record {
       after = search rules;
-      membership = λ a. has_row c.clear-bit.new.row (without_atom s x) c.clear-bit.ensures a ∙ has_without_atom s long x (omega arith) a;
+      membership = λ a. has_row c.clear_bit.new.row (without_atom s x) c.clear_bit.ensures a ∙ has_without_atom s long x (omega arith) a;
     }

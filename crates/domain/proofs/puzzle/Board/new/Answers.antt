@@ -9,8 +9,8 @@ returns-in-Err c =
     let told = c.in-Err.ensures in
     (told, not_once_from_check pieces c.in-Err.refusal nine told)
 
-pub invariant-of-result : goal.invariant-of-result
-invariant-of-result c =
+pub invariant_of-result : goal.invariant_of-result
+invariant_of-result c =
     let pieces = c.args.pieces in
     let nine : length pieces ≡ 9 = search rules in
-    (nine, (once_from_check pieces nine c.in-Ok.ensures, tt))
+    record { nine = nine; once = once_from_check pieces nine c.in-Ok.ensures }

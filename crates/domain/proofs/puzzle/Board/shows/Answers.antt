@@ -5,4 +5,4 @@ use Rattle.domain.proofs.puzzle.Board.shows.Goals as goal
 
 pub returns : goal.returns
 returns c =
-    c.is-subset.ensures.value ∙ ap (λ (p : ℕ → Bool). every p (members c.args.atoms.now)) (fun_ext c.truths.ensures.membership)
+    c.is_subset.ensures.value ∙ ap (λ (p : ℕ → Bool). every p (members c.args.atoms.now)) (fun_ext c.truths.ensures.membership)

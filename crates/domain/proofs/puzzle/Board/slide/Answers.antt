@@ -12,11 +12,11 @@ moved_cells : (s : Board) (a c : ℕ) (cells : List ℕ) → Some c ≡ destinat
     → cells ≡ (after s a).cells
 moved_cells s a c cells e f = f ∙ ap (shifted s.cells) e ∙ sym (after_cells s a)
 
-pub returns-in-default : goal.returns-in-default
-returns-in-default c =
+pub returns-in_default : goal.returns-in_default
+returns-in_default c =
     let s = c.args.self.now in
     let a = c.args.action in
-    same_board s (after s a) (ap (shifted s.cells) c.in-default.ensures ∙ sym (after_cells s a))
+    same_board s (after s a) (ap (shifted s.cells) c.in_default.ensures ∙ sym (after_cells s a))
 
 pub traded-requires : goal.traded-requires
 traded-requires c =
@@ -24,12 +24,15 @@ traded-requires c =
     let a = c.args.action in
     subst Inside (sym c.in-Some.ensures) (destination_inside (gap s.cells) a (gap_below s.cells s.nine s.once))
 
-pub invariant-of-result : goal.invariant-of-result
-invariant-of-result c =
+pub invariant_of-result : goal.invariant_of-result
+invariant_of-result c =
     let s = c.args.self.now in
     let a = c.args.action in
     let e = moved_cells s a c.in-Some.cell c.traded.result c.in-Some.ensures c.traded.ensures in
-    (subst (λ (xs : List ℕ). length xs ≡ 9) (sym e) (after s a).nine, (subst EachOnce (sym e) (after s a).once, tt))
+    record {
+      nine = subst (λ (xs : List ℕ). length xs ≡ 9) (sym e) (after s a).nine;
+      once = subst EachOnce (sym e) (after s a).once;
+    }
 
 pub returns : goal.returns
 returns c =

@@ -5,8 +5,8 @@ use Rattle.domain.proofs.Counts.{pieces_below}
 use Rattle.domain.proofs.Standing.{stands_more, stands_all, members_standing}
 use Rattle.domain.proofs.puzzle.Board.truths.Goals as goal
 
-pub atom-of-requires : goal.atom-of-requires
-atom-of-requires c =
+pub atom_of-requires : goal.atom_of-requires
+atom_of-requires c =
     let s = c.args.self.now in
     (pieces_below s.cells s.nine s.once c.loop-cell.cell (omega arith), omega arith)
 
@@ -15,7 +15,7 @@ loop-cell-preserved c = λ a.
     let i = c.loop-cell.cell in
     let cells = c.args.self.now.cells in
     c.insert.ensures.membership a
-    ∙ ap₂ (λ (b : Bool) (x : ℕ). b || eqb a x) (c.loop-cell.invariant a) c.atom-of.ensures ∙ stands_more cells i a (omega arith)
+    ∙ ap₂ (λ (b : Bool) (x : ℕ). b || eqb a x) (c.loop-cell.invariant a) c.atom_of.ensures ∙ stands_more cells i a (omega arith)
 
 pub returns : goal.returns
 returns c =

@@ -4,12 +4,12 @@ use Rattle.domain.proofs.Leading.{leading_upto}
 use Rattle.domain.proofs.puzzle.make.first_stale.Goals as goal
 
 pub loop-cell-preserved : goal.loop-cell-preserved
-loop-cell-preserved c = below_more _ _ c.loop-cell.invariant (sym c.if-not-is-fresh.ensures)
+loop-cell-preserved c = below_more _ _ c.loop-cell.invariant (sym c.if-not-is_fresh.ensures)
 
-pub returns-then-not-is-fresh : goal.returns-then-not-is-fresh
+pub returns-then-not-is_fresh : goal.returns-then-not-is_fresh
 unfolding first_stale
-returns-then-not-is-fresh c =
-    leading_upto (fresh c.args.pieces.now) 9 c.loop-cell.cell (omega arith) c.loop-cell.invariant (λ _. sym c.if-not-is-fresh.ensures)
+returns-then-not-is_fresh c =
+    leading_upto (fresh c.args.pieces.now) 9 c.loop-cell.cell (omega arith) c.loop-cell.invariant (λ _. sym c.if-not-is_fresh.ensures)
 
 pub returns : goal.returns
 unfolding first_stale

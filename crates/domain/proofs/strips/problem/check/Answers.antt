@@ -10,19 +10,19 @@ pub returns-then-unfit-table : goal.returns-then-unfit-table
 returns-then-unfit-table c =
     let n = c.args.atoms in
     let acts = c.args.table.now in
-    let found : first_unfit n acts < length acts = omega (arith, c.lowest-unfit-unfit.ensures) in
+    let found : first_unfit n acts < length acts = omega (arith, c.lowest_unfit-unfit.ensures) in
     fault_of_actions n c.args.start.now c.args.goal.now acts (omega arith) (omega arith) (omega arith)
-    (sym c.if-not-is-below.ensures) (sym c.if-not-is-below-2.ensures)
+    (sym c.if-not-is_below.ensures) (sym c.if-not-is_below-2.ensures)
     ∙ cond-true (ltb (first_unfit n acts) (length acts)) (Some (Range (first_unfit n acts))) None (lt-ltb (first_unfit n acts) (length acts) found)
-    ∙ ap {B = Option Refusal} (λ (k : ℕ). Some (Range k)) (sym c.lowest-unfit-unfit.ensures)
+    ∙ ap {B = Option Refusal} (λ (k : ℕ). Some (Range k)) (sym c.lowest_unfit-unfit.ensures)
 
 pub returns : goal.returns
 returns c =
     let n = c.args.atoms in
     let acts = c.args.table.now in
-    let none_found : length acts ≤ first_unfit n acts = omega (arith, c.lowest-unfit-unfit.ensures) in (
+    let none_found : length acts ≤ first_unfit n acts = omega (arith, c.lowest_unfit-unfit.ensures) in (
       fault_of_actions n c.args.start.now c.args.goal.now acts (omega arith) (omega arith) (omega arith)
-          (sym c.if-not-is-below.ensures) (sym c.if-not-is-below-2.ensures)
+          (sym c.if-not-is_below.ensures) (sym c.if-not-is_below-2.ensures)
           ∙ cond-false (ltb (first_unfit n acts) (length acts)) (Some (Range (first_unfit n acts))) None (le-ltb (first_unfit n acts) (length acts) none_found),
       omega arith,
       omega arith,

@@ -8,13 +8,13 @@ pub loop-feature-init : goal.loop-feature-init
 loop-feature-init c = λ k h. or_left _ _ (lt-ltb k c.args.count h)
 
 pub loop-feature-preserved : goal.loop-feature-preserved
-loop-feature-preserved c = below_more _ _ c.loop-feature.invariant (or_right _ _ (sym c.is-silent.ensures ∙ c.if-not-is-silent.false))
+loop-feature-preserved c = below_more _ _ c.loop-feature.invariant (or_right _ _ (sym c.is_silent.ensures ∙ c.if-not-is_silent.false))
 
-pub returns-then-not-is-silent : goal.returns-then-not-is-silent
+pub returns-then-not-is_silent : goal.returns-then-not-is_silent
 unfolding rule_fits
-returns-then-not-is-silent c =
+returns-then-not-is_silent c =
     sym (not_every _ 8 c.loop-feature.feature c.loop-feature-test.true
-    (or_from _ _ (le-ltb c.loop-feature.feature c.args.count (omega arith)) (sym c.is-silent.ensures ∙ c.if-not-is-silent.true)))
+    (or_from _ _ (le-ltb c.loop-feature.feature c.args.count (omega arith)) (sym c.is_silent.ensures ∙ c.if-not-is_silent.true)))
 
 pub returns : goal.returns
 unfolding rule_fits

@@ -13,19 +13,25 @@ kept_accepted : (fs held_fs : List Feature) (rs held_rs : List Rule) → take (l
 kept_accepted fs held_fs rs held_rs same-fs same-rs none_left =
     ap₂ (λ (x : List Feature) (y : List Rule). rules_left (kinds_of x) y) same-fs same-rs ∙ none_left
 
-pub invariant-of-result : goal.invariant-of-result
-invariant-of-result c =
+pub invariant_of-result : goal.invariant_of-result
+invariant_of-result c =
     let fs = c.args.features.now in
     let rs = c.args.rules.now in
-    let front_fs = held_front 8 c.blank.result fs c.hold-first.result c.requires.few.0 c.hold-first.ensures in
-    let front_rs = held_front 16 c.blank-2.result rs c.hold-first-2.result c.requires.few.1 c.hold-first-2.ensures in
-    (c.requires.few.0, (c.requires.few.1, (ap length front_fs, (ap length front_rs, (kept_accepted fs _ rs _ front_fs front_rs c.requires.accepted, tt)))))
+    let front_fs = held_front 8 c.blank.result fs c.hold_first.result c.requires.few.0 c.hold_first.ensures in
+    let front_rs = held_front 16 c.blank-2.result rs c.hold_first-2.result c.requires.few.1 c.hold_first-2.ensures in
+    record {
+      few_features = c.requires.few.0;
+      few_rules = c.requires.few.1;
+      features_counted = ap length front_fs;
+      rules_counted = ap length front_rs;
+      accepted = kept_accepted fs _ rs _ front_fs front_rs c.requires.accepted;
+    }
 
 pub returns : goal.returns
 returns c =
     let fs = c.args.features.now in
     let rs = c.args.rules.now in
-    let front_fs = held_front 8 c.blank.result fs c.hold-first.result c.requires.few.0 c.hold-first.ensures in
-    let front_rs = held_front 16 c.blank-2.result rs c.hold-first-2.result c.requires.few.1 c.hold-first-2.ensures in
+    let front_fs = held_front 8 c.blank.result fs c.hold_first.result c.requires.few.0 c.hold_first.ensures in
+    let front_rs = held_front 16 c.blank-2.result rs c.hold_first-2.result c.requires.few.1 c.hold_first-2.ensures in
     let sound = acceptance_sound _ _ (kept_accepted fs _ rs _ front_fs front_rs c.requires.accepted) in
     record { given = (front_fs, front_rs); no_return = sound.0; no_standstill = sound.1 }
