@@ -76,7 +76,7 @@ impl Measure for Tuples {
 
     ghost keys = { λ m. tuple_keys m.atoms m.width };
 
-    ghost limit = { first_of (Prim.search rules, Prim.grind (arith, Self.row.coded.inj)) };
+    ghost limit = { Prim.search rules };
 
     ghost below = { λ m atoms rising. keys_below m.atoms m.width atoms rising };
 

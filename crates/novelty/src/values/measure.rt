@@ -97,11 +97,11 @@ impl Measure for FeatureValues {
 
     ghost keys = { λ m. value_keys (features_of m) };
 
-    ghost limit = { first_of (Prim.search rules, Prim.grind (arith, Self.row.coded.inj)) };
+    ghost limit = { Prim.search rules };
 
     ghost below = { λ m atoms rising. (key_below (features_of m) atoms, tt) };
 
-    ghost some = { first_of (Prim.search rules, Prim.grind (arith, Self.row.coded.inj)) };
+    ghost some = { Prim.search rules };
 
     fn count(&self) -> usize {
         self.keys

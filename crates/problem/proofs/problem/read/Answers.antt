@@ -4,39 +4,39 @@ use Rattle.domain.specs.declared.strips.Action.{Action}
 use Rattle.problem.proofs.Parsing.{placed_fault, placed_good, line_refused, sketch_refused, whole_at, read_good}
 use Rattle.problem.proofs.problem.read.Goals as goal
 
-pub returns-in-err-reader : goal.returns-in-err-reader
-returns-in-err-reader c =
-    let p = err_from_is_err_and c.from-residual.result c.from-residual.ensures.1 in
+pub returns-in_err-reader : goal.returns-in_err-reader
+returns-in_err-reader c =
+    let p = err_from_is_err_and c.from_residual.result c.from_residual.ensures.1 in
     let n = length c.args.actions.now in
     let bs = c.args.text.now in
-    let e = c.in-err-reader.field-0.0 in
-    let fault = placed_fault c.min-limit.result bs e c.in-err-reader.ensures.value in
+    let e = c.in_err-reader.field-0.0 in
+    let fault = placed_fault c.min-limit.result bs e c.in_err-reader.ensures.value in
     rw (p.1, p.2) (line_refused n bs e (whole_at n bs c.min-limit.result _ c.min-limit.ensures fault), refl)
 
-pub returns-in-err-sketch : goal.returns-in-err-sketch
-returns-in-err-sketch c =
-    let p = err_from_is_err_and c.from-residual-in-err-sketch.result c.from-residual-in-err-sketch.ensures.1 in
+pub returns-in_err-sketch : goal.returns-in_err-sketch
+returns-in_err-sketch c =
+    let p = err_from_is_err_and c.from_residual-in_err-sketch.result c.from_residual-in_err-sketch.ensures.1 in
     let n = length c.args.actions.now in
     let bs = c.args.text.now in
-    let s = c.in-ok-reader.reader in
-    let good = placed_good c.min-limit.result bs s c.in-ok-reader.ensures.value in
+    let s = c.in_ok-reader.reader in
+    let good = placed_good c.min-limit.result bs s c.in_ok-reader.ensures.value in
     rw (p.1, p.2)
-    (sketch_refused n bs s good.0 _ (whole_at n bs c.min-limit.result _ c.min-limit.ensures good.1) c.in-err-sketch.ensures.faults, refl)
+    (sketch_refused n bs s good.0 _ (whole_at n bs c.min-limit.result _ c.min-limit.ensures good.1) c.in_err-sketch.ensures.faults, refl)
 
 pub returns : goal.returns
 returns c =
     let before : List Action = c.args.actions.now in
     let bs = c.args.text.now in
-    let s = c.in-ok-reader.reader in
+    let s = c.in_ok-reader.reader in
     let k = s.actions in
-    let good = placed_good c.min-limit.result bs s c.in-ok-reader.ensures.value in
-    let sound = c.in-ok-reader.ensures.sound in
+    let good = placed_good c.min-limit.result bs s c.in_ok-reader.ensures.value in
+    let sound = c.in_ok-reader.ensures.sound in
     let few : k ≤ length before = omega (arith, sound.0.few_actions, sound.1, c.min-limit.ensures) in
     let all : k - 0 ≡ k = omega arith in
     let size : length (take (k - 0) before) ≡ k = simp length-take (omega arith) in
     let room : length (take (k - 0) before) ≤ c.min-limit.result = omega (arith, size, sound.0.few_actions, sound.1) in
-    let front = c.fill-actions.ensures s good.0 room good.1 ∙ ap (λ n. take n good.0) size in
-    let given = c.in-ok-sketch.ensures.given in
-    read_good bs before c.fill-actions.new.places _ good.0 s c.in-ok-sketch.sketch
+    let front = c.fill_actions.ensures s good.0 room good.1 ∙ ap (λ n. take n good.0) size in
+    let given = c.in_ok-sketch.ensures.given in
+    read_good bs before c.fill_actions.new.places _ good.0 s c.in_ok-sketch.sketch
     (whole_at (length before) bs c.min-limit.result _ c.min-limit.ensures good.1)
-    c.in-ok-sketch.ensures.faults given.0 given.1 few front (c.fill-actions.auto.places ∙ size) (ap (λ n. drop n before) all)
+    c.in_ok-sketch.ensures.faults given.0 given.1 few front (c.fill_actions.auto.places ∙ size) (ap (λ n. drop n before) all)

@@ -7,24 +7,24 @@ use Rattle.problem.specs.Text.{read_text, read_lines}
 use Rattle.problem.proofs.Onward.{line_more, line_fault, lines_end, ends_so}
 use Rattle.problem.proofs.reading.read_lines.Goals as goal
 
-pub returns-in-err-row : goal.returns-in-err-row
+pub returns-in_err-row : goal.returns-in_err-row
 unfolding read_text
-returns-in-err-row c =
-    let p = err_from_is_err_and c.from-residual.result c.from-residual.ensures.1 in
-    let fault = line_fault c.loop-rest.number c.loop-rest.reader c.loop-rest.places c.loop-rest.rest.now c.split-line.result.0.now c.split-line.result.1.now _ c.split-line.ensures.parts c.in-err-row.ensures.value in
+returns-in_err-row c =
+    let p = err_from_is_err_and c.from_residual.result c.from_residual.ensures.1 in
+    let fault = line_fault c.loop-rest.number c.loop-rest.reader c.loop-rest.places c.loop-rest.rest.now c.split_line.result.0.now c.split_line.result.1.now _ c.split_line.ensures.parts c.in_err-row.ensures.value in
     record {
       value = rw (p.1, p.2) (sym c.loop-rest.invariant.3 ∙ fault);
-      sound = IfOk-from_err _ _ c.from-residual.ensures.0;
+      sound = IfOk-from_err _ _ c.from_residual.ensures.0;
     }
 
 pub loop-rest-preserved : goal.loop-rest-preserved
 loop-rest-preserved c =
     let s = c.advance.new.self in
-    let behind = c.split-line.result.1.now in
-    let more = line_more c.loop-rest.number c.loop-rest.reader c.loop-rest.places c.loop-rest.rest.now c.split-line.result.0.now behind s c.in-ok-row.row c.split-line.ensures.parts c.in-ok-row.ensures.value in (
+    let behind = c.split_line.result.1.now in
+    let more = line_more c.loop-rest.number c.loop-rest.reader c.loop-rest.places c.loop-rest.rest.now c.split_line.result.0.now behind s c.in_ok-row.row c.split_line.ensures.parts c.in_ok-row.ensures.value in (
       c.advance.ensures.sound,
       c.advance.ensures.kept ∙ c.loop-rest.invariant.1,
-      omega (arith, c.split-line.ensures.shorter, c.loop-rest.invariant.2),
+      omega (arith, c.split_line.ensures.shorter, c.loop-rest.invariant.2),
       ap (λ acts. read_lines (c.loop-rest.number + 1) (s, acts) (lines behind)) c.place.ensures ∙ sym more ∙ c.loop-rest.invariant.3,
     )
 

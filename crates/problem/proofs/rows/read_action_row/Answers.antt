@@ -5,12 +5,12 @@ use Rattle.problem.specs.Rows.{action_row, checked_action}
 use Rattle.problem.proofs.Caps.{action_capped, composed, composed_err}
 use Rattle.problem.proofs.rows.read_action_row.Goals as goal
 
-pub returns-in-err-action : goal.returns-in-err-action
+pub returns-in_err-action : goal.returns-in_err-action
 unfolding action_row
-returns-in-err-action c =
-    let p = err_from_is_err_and c.from-residual.result c.from-residual.ensures.1 in
-    record { value = rw (p.1, p.2) (composed_err capped_lettered (checked_action c.args.atoms c.args.limit c.args.line.now.number) _ _ c.in-err-action.ensures); bound = IfOk-from_err _ _ c.from-residual.ensures.0 }
+returns-in_err-action c =
+    let p = err_from_is_err_and c.from_residual.result c.from_residual.ensures.1 in
+    record { value = rw (p.1, p.2) (composed_err capped_lettered (checked_action c.args.atoms c.args.limit c.args.line.now.number) _ _ c.in_err-action.ensures); bound = IfOk-from_err _ _ c.from_residual.ensures.0 }
 
 pub returns : goal.returns
 unfolding action_row
-returns c = record { value = c.check-action.ensures.value ∙ composed capped_lettered (checked_action c.args.atoms c.args.limit c.args.line.now.number) (action_capped _ _ _ c.requires.0 c.requires.1) _ _ c.in-ok-action.ensures; bound = c.check-action.ensures.bound }
+returns c = record { value = c.check_action.ensures.value ∙ composed capped_lettered (checked_action c.args.atoms c.args.limit c.args.line.now.number) (action_capped _ _ _ c.requires.0 c.requires.1) _ _ c.in_ok-action.ensures; bound = c.check_action.ensures.bound }

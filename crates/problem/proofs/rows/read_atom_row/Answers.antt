@@ -5,12 +5,12 @@ use Rattle.problem.specs.Rows.{atom_row, checked_atom}
 use Rattle.problem.proofs.Caps.{atom_capped, composed, composed_err}
 use Rattle.problem.proofs.rows.read_atom_row.Goals as goal
 
-pub returns-in-err-atom : goal.returns-in-err-atom
+pub returns-in_err-atom : goal.returns-in_err-atom
 unfolding atom_row
-returns-in-err-atom c =
-    let p = err_from_is_err_and c.from-residual.result c.from-residual.ensures.1 in
-    record { value = rw (p.1, p.2) (composed_err capped_numbers (checked_atom c.args.next c.args.line.now.number) _ _ c.in-err-atom.ensures); bound = IfOk-from_err _ _ c.from-residual.ensures.0 }
+returns-in_err-atom c =
+    let p = err_from_is_err_and c.from_residual.result c.from_residual.ensures.1 in
+    record { value = rw (p.1, p.2) (composed_err capped_numbers (checked_atom c.args.next c.args.line.now.number) _ _ c.in_err-atom.ensures); bound = IfOk-from_err _ _ c.from_residual.ensures.0 }
 
 pub returns : goal.returns
 unfolding atom_row
-returns c = record { value = c.check-atom.ensures.value ∙ composed capped_numbers (checked_atom c.args.next c.args.line.now.number) (atom_capped _ _ c.requires) _ _ c.in-ok-atom.ensures; bound = c.check-atom.ensures.bound }
+returns c = record { value = c.check_atom.ensures.value ∙ composed capped_numbers (checked_atom c.args.next c.args.line.now.number) (atom_capped _ _ c.requires) _ _ c.in_ok-atom.ensures; bound = c.check_atom.ensures.bound }

@@ -5,12 +5,12 @@ use Rattle.problem.specs.Rows.{feature_row, checked_feature}
 use Rattle.problem.proofs.Caps.{feature_capped, composed, composed_err}
 use Rattle.problem.proofs.rows.read_feature_row.Goals as goal
 
-pub returns-in-err-feature : goal.returns-in-err-feature
+pub returns-in_err-feature : goal.returns-in_err-feature
 unfolding feature_row
-returns-in-err-feature c =
-    let p = err_from_is_err_and c.from-residual.result c.from-residual.ensures.1 in
-    record { value = rw (p.1, p.2) (composed_err capped_lettered (checked_feature c.args.atoms c.args.table.now c.args.line.now.number) _ _ c.in-err-feature.ensures); bound = IfOk-from_err _ _ c.from-residual.ensures.0 }
+returns-in_err-feature c =
+    let p = err_from_is_err_and c.from_residual.result c.from_residual.ensures.1 in
+    record { value = rw (p.1, p.2) (composed_err capped_lettered (checked_feature c.args.atoms c.args.table.now c.args.line.now.number) _ _ c.in_err-feature.ensures); bound = IfOk-from_err _ _ c.from_residual.ensures.0 }
 
 pub returns : goal.returns
 unfolding feature_row
-returns c = record { value = c.check-feature.ensures.value ∙ composed capped_lettered (checked_feature c.args.atoms c.args.table.now c.args.line.now.number) (feature_capped _ c.args.table.now _ c.requires) _ _ c.in-ok-feature.ensures; bound = c.check-feature.ensures.bound }
+returns c = record { value = c.check_feature.ensures.value ∙ composed capped_lettered (checked_feature c.args.atoms c.args.table.now c.args.line.now.number) (feature_capped _ c.args.table.now _ c.requires) _ _ c.in_ok-feature.ensures; bound = c.check_feature.ensures.bound }

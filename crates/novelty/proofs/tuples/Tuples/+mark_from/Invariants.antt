@@ -3,8 +3,8 @@ use Rattle.novelty.specs.Marks.{marked}
 use Rattle.novelty.proofs.Walks.{onward}
 use Rattle.novelty.proofs.tuples.Tuples.+mark_from.Given as goal
 
-abbrev pub decreases-mark-from : goal.decreases-mark-from
-decreases-mark-from l = l.self.now.width - l.size
+abbrev pub decreases-mark_from : goal.decreases-mark_from
+decreases-mark_from l = l.self.now.width - l.size
 
 -- what is left, marked now, gives what the whole, marked at the start, gives
 abbrev pub invariant-loop-i : goal.invariant-loop-i

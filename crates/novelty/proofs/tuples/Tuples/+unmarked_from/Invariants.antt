@@ -3,8 +3,8 @@ use Rattle.novelty.specs.Marks.{novel}
 use Rattle.novelty.proofs.Walks.{onward}
 use Rattle.novelty.proofs.tuples.Tuples.+unmarked_from.Given as goal
 
-abbrev pub decreases-unmarked-from : goal.decreases-unmarked-from
-decreases-unmarked-from l = l.self.now.width - l.size
+abbrev pub decreases-unmarked_from : goal.decreases-unmarked_from
+decreases-unmarked_from l = l.self.now.width - l.size
 
 -- no key was unmarked so far, so what is left decides
 abbrev pub invariant-loop-i : goal.invariant-loop-i

@@ -6,8 +6,8 @@ use Rattle.novelty.proofs.tuples.Tuples.list_atoms.Goals as goal
 
 pub returns : goal.returns
 returns c =
-    let count = c.list-members.result in
-    let made = c.list-members.ensures in
+    let count = c.list_members.result in
+    let made = c.list_members.ensures in
     record {
       few = omega (arith, simp length-append at (ap length made.after));
       listed = ap (take count) made.after ∙ take_at (members c.below.result) _ count (sym made.value)

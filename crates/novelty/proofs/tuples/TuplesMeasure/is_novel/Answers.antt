@@ -4,16 +4,16 @@ use Rattle.novelty.specs.Marks.{novel}
 use Rattle.novelty.proofs.Walks.{walk_below, walk_keys}
 use Rattle.novelty.proofs.tuples.TuplesMeasure.is_novel.Goals as goal
 
-pub unmarked-from-requires : goal.unmarked-from-requires
-unmarked-from-requires c =
+pub unmarked_from-requires : goal.unmarked_from-requires
+unmarked_from-requires c =
     record {
-      atoms = walk_below c.args.self.now.atoms c.list-atoms-count.result c.list-atoms-count.new.list (members c.args.atoms.now) c.list-atoms-count.ensures.listed;
+      atoms = walk_below c.args.self.now.atoms c.list_atoms-count.result c.list_atoms-count.new.list (members c.args.atoms.now) c.list_atoms-count.ensures.listed;
       depth = omega arith;
       fits = omega arith;
     }
 
 pub returns : goal.returns
 returns c =
-    c.unmarked-from.ensures
-    ∙ ap (λ ks. novel ks c.args.marks.now) (walk_keys c.args.self.now.atoms c.list-atoms-count.result
-    c.list-atoms-count.new.list (members c.args.atoms.now) c.list-atoms-count.ensures.listed c.args.self.now.width)
+    c.unmarked_from.ensures
+    ∙ ap (λ ks. novel ks c.args.marks.now) (walk_keys c.args.self.now.atoms c.list_atoms-count.result
+    c.list_atoms-count.new.list (members c.args.atoms.now) c.list_atoms-count.ensures.listed c.args.self.now.width)

@@ -8,8 +8,8 @@ pub loop-i-init : goal.loop-i-init
 loop-i-init c =
     let fs = c.args.features.now in (sym (ap value_count (drop_all (length fs) fs (omega arith))), omega arith)
 
-pub returns-then-keys-gt-MOST-KEYS : goal.returns-then-keys-gt-MOST-KEYS
-returns-then-keys-gt-MOST-KEYS c =
+pub returns-then-keys-gt-MOST_KEYS : goal.returns-then-keys-gt-MOST_KEYS
+returns-then-keys-gt-MOST_KEYS c =
     let fs = c.args.features.now in
     let i = c.loop-i.i in
     let e = count_more fs i _ (omega arith) (omega arith) c.loop-i.keys c.base-keys.result c.loop-i.invariant.0 c.base-keys.ensures.value in

@@ -21,11 +21,11 @@ small c =
     let rest = drop (c.loop-i.i - 1) c.args.features.now in
     omega (arith, more c, key_below rest (members c.args.truths.now), count_rest c.args.features.now (c.loop-i.i - 1), c.requires)
 
-pub overflow-mul-key : goal.overflow-mul-key
-overflow-mul-key c = omega (arith, small c)
+pub overflow_mul-key : goal.overflow_mul-key
+overflow_mul-key c = omega (arith, small c)
 
-pub overflow-add-key : goal.overflow-add-key
-overflow-add-key c = omega (arith, small c)
+pub overflow_add-key : goal.overflow_add-key
+overflow_add-key c = omega (arith, small c)
 
 pub loop-i-preserved : goal.loop-i-preserved
 loop-i-preserved c = more c

@@ -18,25 +18,25 @@ pub returns-in-Values-Atoms-default : goal.returns-in-Values-Atoms-default
 returns-in-Values-Atoms-default c =
     let table : c.args.self.now.wanted ≡ Values Atoms = cc in
     let some : 0 < length c.args.line.now.bytes.now = search rules in
-    record { value = moves_so _ _ (filling _ Atoms _ _ table some) c.add-atom.ensures.value; sound = c.add-atom.ensures.sound; kept = c.add-atom.ensures.kept }
+    record { value = moves_so _ _ (filling _ Atoms _ _ table some) c.add_atom.ensures.value; sound = c.add_atom.ensures.sound; kept = c.add_atom.ensures.kept }
 
 pub returns-in-Values-Actions-default : goal.returns-in-Values-Actions-default
 returns-in-Values-Actions-default c =
     let table : c.args.self.now.wanted ≡ Values Actions = cc in
     let some : 0 < length c.args.line.now.bytes.now = search rules in
-    record { value = moves_so _ _ (filling _ Actions _ _ table some) c.add-action.ensures.value; sound = c.add-action.ensures.sound; kept = c.add-action.ensures.kept }
+    record { value = moves_so _ _ (filling _ Actions _ _ table some) c.add_action.ensures.value; sound = c.add_action.ensures.sound; kept = c.add_action.ensures.kept }
 
 pub returns-in-Values-Features-default : goal.returns-in-Values-Features-default
 returns-in-Values-Features-default c =
     let table : c.args.self.now.wanted ≡ Values Features = cc in
     let some : 0 < length c.args.line.now.bytes.now = search rules in
-    record { value = moves_so _ _ (filling _ Features _ _ table some) c.add-feature.ensures.value; sound = c.add-feature.ensures.sound; kept = c.add-feature.ensures.kept }
+    record { value = moves_so _ _ (filling _ Features _ _ table some) c.add_feature.ensures.value; sound = c.add_feature.ensures.sound; kept = c.add_feature.ensures.kept }
 
 pub returns-in-Values-Rules-default : goal.returns-in-Values-Rules-default
 returns-in-Values-Rules-default c =
     let table : c.args.self.now.wanted ≡ Values Rules = cc in
     let some : 0 < length c.args.line.now.bytes.now = search rules in
-    record { value = moves_so _ _ (filling _ Rules _ _ table some) c.add-rule.ensures.value; sound = c.add-rule.ensures.sound; kept = c.add-rule.ensures.kept }
+    record { value = moves_so _ _ (filling _ Rules _ _ table some) c.add_rule.ensures.value; sound = c.add_rule.ensures.sound; kept = c.add_rule.ensures.kept }
 
 pub returns-in-Nothing-default : goal.returns-in-Nothing-default
 unfolding step
