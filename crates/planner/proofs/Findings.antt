@@ -5,7 +5,7 @@ use Rattle.std.proofs.lemmas.Bool.{cases_lt, cases_Bool, lt-ltb, ltb-true, ltb-f
 use Rattle.domain.specs.Model.{Meaning}
 use Rattle.planner.specs.Findings.{Findings, WholeFindings}
 use Rattle.planner.specs.Search.{Task, Snapshot, link, keys_of, goes_on, tried_from, advanced, begun}
-use Rattle.planner.specs.Way.{parent_of, way_to, root, link_count, actions_of, runs_to_target, way_holds}
+use Rattle.planner.specs.Way.{parent_of, way_to, root, actions_of, runs_to_target, way_holds}
 use Rattle.planner.specs.Whole.{way_by, outcome_of, reply_of, Within, search_fault, after, at_end}
 use Rattle.planner.specs.Width.{Leads, Target, Admissible}
 use Rattle.planner.specs.declared.node.Node.{Node}
@@ -17,7 +17,7 @@ use Rattle.planner.proofs.Between.{Unmet, Met, Between, begins_expanding, advanc
 use Rattle.planner.proofs.Chains.{Weighs, Recorded, none_admissible, target_heavier, leads_more}
 use Rattle.planner.proofs.Expanding.{Fair, Going, Stopped, novel_place, try_all}
 use Rattle.planner.proofs.Faithful.{depth, state, Core, Done, leads_to_kept, deeper, kept_below_count}
-use Rattle.planner.proofs.Links.{root_lower, link_count_whole}
+use Rattle.planner.proofs.Links.{root_lower}
 use Rattle.planner.proofs.Steps.{advanced_used}
 
 -- the length of a way is a weight that every further action raises
@@ -86,12 +86,8 @@ module _ {S : Type 0} (Q : Task S) (F : Fair Q) where
     met_leads =
         leads_more Q.problem (way_to g.nodes M.last M.last) M.action _ _ _ (leads_to_kept Q M.core M.last last_kept) M.applies refl
 
-    -- the links lead back to 0, so all that are counted are taken
-    pub met_links : link_count g.nodes M.last ≡ length (way_to g.nodes M.last M.last)
-    met_links = link_count_whole g.nodes M.last (root_below M.core M.last M.last (omega arith) last_kept)
-
     pub met_long : length (actions_of g.nodes found) ≡ found.length
-    met_long = length_push (way_to g.nodes M.last M.last) M.action ∙ ap (λ n. n + 1) (sym met_links)
+    met_long = length_push (way_to g.nodes M.last M.last) M.action
 
     pub met_holds : way_holds Q.problem g.nodes found ≡ true
     met_holds =
@@ -113,7 +109,7 @@ module _ {S : Type 0} (Q : Task S) (F : Fair Q) where
         (λ j in' open'.
         let late = ltb-false j M.last open' in
         let deep = deeper Q M.core M.last j late in' in
-        omega (arith, met_links))))
+        omega arith)))
         (λ le. le) (cases_lt (length ys) found.length)
 
 -- a search that met no target did not find one

@@ -1,8 +1,8 @@
 -- The way back by links, one link at a time. Assumes nothing.
-use Rattle.std.proofs.Common.{◌≡◌, ℕ, zero, suc, ◌+◌, ◌<◌, ◌≤◌, Bool, true, false, cond, eqb, ltb, List, [], ◌∷◌, ◌++◌, map, length, get_or, take, sym, refl, ap, ◌∙◌, subst, ap₂, ⊎_elim, not-suc-le-zero, add-zero, add-one, arith}
+use Rattle.std.proofs.Common.{◌≡◌, ℕ, zero, suc, ◌<◌, ◌≤◌, Bool, true, false, cond, ltb, List, [], ◌∷◌, ◌++◌, map, length, get_or, take, sym, refl, ap, ◌∙◌, subst, ap₂, ⊎_elim, not-suc-le-zero, add-one, arith}
 use Rattle.std.proofs.lemmas.List.{get_or-map, length_push, length-take-le, take-take, take_at}
-use Rattle.std.proofs.lemmas.Bool.{cases_lt, ltb-true, lt-ltb, le-ltb, eq-eqb, ne_eqb, cond-true, cond-false}
-use Rattle.planner.specs.Way.{parent_of, action_of, way_to, root, link_count}
+use Rattle.std.proofs.lemmas.Bool.{cases_lt, ltb-true, lt-ltb, le-ltb, cond-true, cond-false}
+use Rattle.planner.specs.Way.{parent_of, action_of, way_to, root}
 use Rattle.planner.specs.declared.node.Node.{Node}
 
 module _ {S : Type 0} (nodes : List (Node S)) where
@@ -122,13 +122,3 @@ way_to_agrees nodes other n up by (suc m) (suc i) within =
         ≡ cond t (way_to nodes m (parent_of nodes (suc i)) ++ (action_of nodes (suc i) ∷ [])) []
     go true e same = ap (λ xs. xs ++ (action_of nodes (suc i) ∷ [])) (same e)
     go false e same = refl
-
-module _ {S : Type 0} (nodes : List (Node S)) where
-  -- the links back to 0 are those taken; where they do not lead to 0, the one that is not taken counts too
-  pub link_count_whole : (i : ℕ) → root nodes i i ≡ 0 → link_count nodes i ≡ length (way_to nodes i i)
-  unfolding link_count
-  link_count_whole i home = ap (λ n. length (way_to nodes i i) + n) (cond-true (eqb (root nodes i i) 0) 0 1 (eq-eqb _ _ home)) ∙ add-zero _
-
-  pub link_count_broken : (i : ℕ) → (root nodes i i ≡ 0 → ⊥) → link_count nodes i ≡ length (way_to nodes i i) + 1
-  unfolding link_count
-  link_count_broken i away = ap (λ n. length (way_to nodes i i) + n) (cond-false (eqb (root nodes i i) 0) 0 1 (ne_eqb _ _ away))

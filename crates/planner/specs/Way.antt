@@ -1,5 +1,5 @@
 -- The way back from a kept state to the start, by its links, and whether a found way runs. Assumes nothing.
-use Rattle.std.specs.Prelude.{ℕ, zero, suc, ◌+◌, Bool, cond, ◌&&◌, List, [], ◌∷◌, ◌++◌, map, length, drop, Some, None, Ok, Err, Option, Result, ◌==◌, nat_lt, slice_index}
+use Rattle.std.specs.Prelude.{ℕ, zero, suc, Bool, cond, ◌&&◌, List, [], ◌∷◌, ◌++◌, map, length, drop, Some, None, Ok, Err, Option, Result, ◌==◌, nat_lt, slice_index}
 use Rattle.domain.specs.Model.{Meaning}
 use Rattle.domain.specs.declared.refusal.Refusal.{Refusal}
 use Rattle.domain.specs.declared.refusal.Refusal.TheVariants.{PlanFull, BrokenWay}
@@ -27,10 +27,6 @@ module _ {S : Type 0} (nodes : List (Node S)) where
   root zero i = i
   root (suc n) zero = zero
   root (suc n) (suc i) = cond (nat_lt (parent_of (suc i)) (suc i)) (root n (parent_of (suc i))) (suc i)
-
-  -- how many links there are from number i back to 0; a link that is not to a lower number ends the count and counts
-  unfoldable pub link_count : ℕ → ℕ
-  link_count i = length (way_to i i) + cond (root i i == 0) 0 1
 
   -- the actions of a found way
   abbrev pub actions_of : Way → List ℕ

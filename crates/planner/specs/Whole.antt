@@ -10,12 +10,12 @@ use Rattle.planner.specs.declared.node.Outcome.{Outcome}
 use Rattle.planner.specs.declared.node.Outcome.TheVariants.{Found, Exhausted, Open}
 use Rattle.planner.specs.declared.node.Reply.{Reply}
 use Rattle.planner.specs.Search.{Task, Snapshot, keys_of, advanced, begun}
-use Rattle.planner.specs.Way.{link_count}
+use Rattle.planner.specs.Way.{way_to, actions_of, way_holds}
 use Rattle.planner.specs.Width.{Leads, Target, Admissible}
 
--- the way that ends with a link: its length counts this link and those back from its number
+-- the way that ends with a link: its length counts the links back, and the last action
 abbrev pub way_by : {S : Type 0} → List (Node S) → Link → Way
-way_by nodes l = record { parent = l.parent; action = l.action; length = link_count nodes l.parent + 1 }
+way_by nodes l = record { parent = l.parent; action = l.action; length = length (way_to nodes l.parent l.parent) + 1 }
 
 -- found once a target is met, else exhausted if no state waits, else open
 abbrev pub outcome_of : {S : Type 0} → List (Node S) → Option Link → ℕ → ℕ → Outcome

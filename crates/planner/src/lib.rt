@@ -2,7 +2,7 @@
 #![tactic(auto)]
 
 pub mod node;
-mod search;
+pub mod search;
 pub mod stepwise;
 pub mod way;
 pub mod whole;

@@ -1,6 +1,6 @@
 // The way back from a kept state to the start, by its links, and the writing of a found way.
-ghost use Rattle.std.specs.Prelude.{◌≡◌, ◌+◌, ◌<◌, ◌≤◌, true, ◌++◌, length, drop, slice_index};
-ghost use Rattle.planner.specs.Way.{way_to, root, link_count, actions_of, runs_to_target, way_holds, way_fault, written_reply, written_list, end_of};
+ghost use Rattle.std.specs.Prelude.{◌≡◌, ◌<◌, ◌≤◌, true, ◌++◌, length, drop, slice_index};
+ghost use Rattle.planner.specs.Way.{way_to, root, actions_of, runs_to_target, way_holds, way_fault, written_reply, written_list, end_of};
 
 use crate::node::{Node, Way};
 use domain::model::StateModel;
@@ -31,20 +31,6 @@ pub(crate) fn trace_back<S>(nodes: &[Node<S>], from: usize) -> Traced
         links += 1;
     }
     Traced { links, root: at }
-}
-
-// How many links there are from number `from` back to 0; one that is not to a lower number ends the count and counts.
-pub(crate) fn count_links<S>(nodes: &[Node<S>], from: usize) -> usize
-    requires { from < length nodes.now }
-    ensures value { result ≡ link_count nodes.now from }
-    ensures few { result ≤ from + 1 }
-{
-    let back = trace_back(nodes, from);
-    if back.root == 0 {
-        back.links
-    } else {
-        back.links + 1
-    }
 }
 
 // The action of the way's step, counted from 0: found by going back from the way's end.

@@ -6,7 +6,7 @@ ghost use Rattle.planner.specs.Whole.{Within, reply_by, search_fault, at_end, se
 
 use crate::node::{Node, Outcome, Progress, Reply, Way};
 use crate::search::{advance, begin};
-use crate::way::count_links;
+use crate::way::trace_back;
 use domain::model::StateModel;
 use domain::refusal::Refusal;
 use novelty::measure::Measure;
@@ -20,7 +20,7 @@ pub(crate) fn reply<S>(nodes: &[Node<S>], progress: &Progress) -> Reply
         Some(last) => Outcome::Found(Way {
             parent: last.parent,
             action: last.action,
-            length: count_links(nodes, last.parent) + 1,
+            length: trace_back(nodes, last.parent).links + 1,
         }),
         None if progress.expanded < progress.kept => Outcome::Open,
         None => Outcome::Exhausted,

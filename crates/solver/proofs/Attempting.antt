@@ -7,7 +7,7 @@ use Rattle.novelty.specs.Tuples.{tuple_keys, tuple_count, tuples_fault}
 use Rattle.novelty.specs.declared.tuples.Tuples.{Tuples}
 use Rattle.planner.specs.Search.{Task, Snapshot, task, begun}
 use Rattle.planner.specs.Stepwise.{UnderWay, started, moved_on, lacks}
-use Rattle.planner.specs.Way.{end_of, link_count}
+use Rattle.planner.specs.Way.{way_to, end_of}
 use Rattle.planner.specs.Whole.{outcome_of, at_end}
 use Rattle.planner.specs.Widths.{first_of}
 use Rattle.planner.specs.declared.node.Link.{Link}
@@ -214,7 +214,10 @@ module _ {S M : Type 0} (N k : ℕ) (v : View S M) (u : UnderWay M) (count : u.c
 -- a way that was found has a step at least
 found_long : {S : Type 0} (nodes : List (Node S)) (met : Option Link) (expanded kept : ℕ)
     → ltb 0 (way_length (way_in (outcome_of nodes met expanded kept))) ≡ is_some (way_in (outcome_of nodes met expanded kept))
-found_long nodes (Some l) expanded kept = let some : 0 < link_count nodes l.parent + 1 = omega arith in lt-ltb 0 (link_count nodes l.parent + 1) some
+found_long nodes (Some l) expanded kept =
+    let links = length (way_to nodes l.parent l.parent) in
+    let some : 0 < links + 1 = omega arith in
+    lt-ltb 0 (links + 1) some
 found_long nodes None expanded kept = go (ltb expanded kept)
   where
     go : (b : Bool) → ltb 0 (way_length (way_in (cond b Open Exhausted))) ≡ is_some (way_in (cond b Open Exhausted))

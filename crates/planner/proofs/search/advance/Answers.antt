@@ -7,21 +7,21 @@ use Rattle.planner.proofs.search.advance.Goals as goal
 pub loop-done-init : goal.loop-done-init
 loop-done-init g c = (advanced_first _ c.args.budget _, c.requires.held)
 
-pub returns-then-not-goes-on : goal.returns-then-not-goes-on
-returns-then-not-goes-on g c =
-    sym (c.loop-done.invariant.0 ∙ advanced_ended _ _ _ (sym c.goes-on.ensures ∙ c.if-not-goes-on.true))
+pub returns-then-not-goes_on : goal.returns-then-not-goes_on
+returns-then-not-goes_on g c =
+    sym (c.loop-done.invariant.0 ∙ advanced_ended _ _ _ (sym c.goes_on.ensures ∙ c.if-not-goes_on.true))
 
 pub expand-requires : goal.expand-requires
 expand-requires g c =
     let p = c.loop-done.progress in
-    let on : goes_on p.met p.expanded p.kept ≡ true = sym c.goes-on.ensures ∙ c.if-not-goes-on.false in
+    let on : goes_on p.met p.expanded p.kept ≡ true = sym c.goes_on.ensures ∙ c.if-not-goes_on.false in
     let waits : p.expanded < p.kept = ltb-true _ _ (and_parts (not (is_some p.met)) (ltb p.expanded p.kept) on).1 in
     record { places = omega arith; waiting = waits; held = c.loop-done.invariant.1 }
 
 pub loop-done-preserved : goal.loop-done-preserved
 loop-done-preserved g c =
     let p = c.loop-done.progress in
-    let on : goes_on p.met p.expanded p.kept ≡ true = sym c.goes-on.ensures ∙ c.if-not-goes-on.false in
+    let on : goes_on p.met p.expanded p.kept ≡ true = sym c.goes_on.ensures ∙ c.if-not-goes_on.false in
     let more : c.loop-done.done < c.args.budget = omega arith in (
       c.loop-done.invariant.0 ∙ advanced_more _ _ _ _ _ on c.expand.ensures more,
       subst (λ k. k ≤ c.args.count) (sym (ap (λ h. h.kept) c.expand.ensures)) (expand_next_kept _ (snap c.loop-done.nodes c.loop-done.marks p) c.loop-done.invariant.1),

@@ -7,11 +7,11 @@ use Rattle.planner.proofs.search.try_actions.Goals as goal
 pub loop-action-init : goal.loop-action-init
 loop-action-init g c = sym (ap (tried_from _ _ _ 0) (sub-zero _))
 
-pub returns-then-is-some : goal.returns-then-is-some
-returns-then-is-some g c =
+pub returns-then-is_some : goal.returns-then-is_some
+returns-then-is_some g c =
     let n = (g.D.StateModel.meaning c.args.model.now).actions in
     let more : c.loop-action.action < n = omega arith in
-    tries_end _ _ _ _ _ n c.try-action.ensures more (sym c.is-some.ensures ∙ c.if-is-some.true)
+    tries_end _ _ _ _ _ n c.try_action.ensures more (sym c.is_some.ensures ∙ c.if-is_some.true)
     ∙ sym c.loop-action.invariant
 
 pub loop-action-preserved : goal.loop-action-preserved
@@ -19,7 +19,7 @@ loop-action-preserved g c =
     let n = (g.D.StateModel.meaning c.args.model.now).actions in
     let more : c.loop-action.action < n = omega arith in
     c.loop-action.invariant
-    ∙ tries_go_on _ _ _ _ _ n c.try-action.ensures more (sym c.is-some.ensures ∙ c.if-is-some.false)
+    ∙ tries_go_on _ _ _ _ _ n c.try_action.ensures more (sym c.is_some.ensures ∙ c.if-is_some.false)
 
 pub returns : goal.returns
 returns g c =

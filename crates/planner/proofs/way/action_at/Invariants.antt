@@ -6,4 +6,4 @@ use Rattle.planner.proofs.way.action_at.Given as goal
 abbrev pub invariant-loop-back : goal.invariant-loop-back
 invariant-loop-back g l =
     (l.at < length l.nodes)
-    × (take (l.way.length + suc l.step - l.-back) (actions_of l.nodes l.way) ≡ way_to l.nodes l.at l.at ++ (l.action ∷ []))
+    × (take (l.way.length + suc l.step - l._back) (actions_of l.nodes l.way) ≡ way_to l.nodes l.at l.at ++ (l.action ∷ []))

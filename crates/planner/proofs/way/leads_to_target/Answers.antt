@@ -14,7 +14,7 @@ returns-then-not-applies g c =
     let whole = actions_of c.args.nodes.now c.args.way.now in
     let within : c.loop-step.step < length whole = omega (arith, c.requires.long) in
     sym
-    (c.loop-step.invariant ∙ runs_more P whole c.loop-step.step c.action-at-action.result c.loop-step.state within c.action-at-action.ensures
+    (c.loop-step.invariant ∙ runs_more P whole c.loop-step.step c.action_at-action.result c.loop-step.state within c.action_at-action.ensures
     ∙ and_failed _ _ (sym c.applies.ensures ∙ c.if-not-applies.true))
 
 pub loop-step-preserved : goal.loop-step-preserved
@@ -23,7 +23,7 @@ loop-step-preserved g c =
     let whole = actions_of c.args.nodes.now c.args.way.now in
     let within : c.loop-step.step < length whole = omega (arith, c.requires.long) in
     c.loop-step.invariant
-    ∙ runs_more P whole c.loop-step.step c.action-at-action.result c.loop-step.state within c.action-at-action.ensures
+    ∙ runs_more P whole c.loop-step.step c.action_at-action.result c.loop-step.state within c.action_at-action.ensures
     ∙ and_passed _ _ (sym c.applies.ensures ∙ c.if-not-applies.false)
     ∙ ap (λ s. runs_to_target P s (drop (c.loop-step.step + 1) whole)) (sym c.successor-state.ensures)
 
@@ -32,4 +32,4 @@ returns g c =
     let P = g.D.StateModel.meaning c.args.model.now in
     let whole = actions_of c.args.nodes.now c.args.way.now in
     let past : length whole ≤ c.loop-step.step = omega (arith, c.requires.long) in
-    c.is-target.ensures ∙ sym (c.loop-step.invariant ∙ runs_all P whole c.loop-step.step c.loop-step.state past)
+    c.is_target.ensures ∙ sym (c.loop-step.invariant ∙ runs_all P whole c.loop-step.step c.loop-step.state past)

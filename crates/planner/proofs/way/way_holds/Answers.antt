@@ -11,21 +11,21 @@ returns-then-back-way g c =
     let long = length_push (way_to c.args.nodes.now way.parent way.parent) way.action in
     sym
     (and_passed _ _ (lt-ltb _ _ c.if-way-nodes.false)
-    ∙ and_passed _ _ (eq-eqb _ _ (sym c.trace-back-back.ensures.root ∙ c.if-back-ne0.false))
-    ∙ and_failed _ _ (ne_eqb _ _ (λ e. c.if-back-way.true (ap (λ n. n + 1) c.trace-back-back.ensures.links ∙ sym long ∙ e))))
+    ∙ and_passed _ _ (eq-eqb _ _ (sym c.trace_back-back.ensures.root ∙ c.if-back-ne0.false))
+    ∙ and_failed _ _ (ne_eqb _ _ (λ e. c.if-back-way.true (ap (λ n. n + 1) c.trace_back-back.ensures.links ∙ sym long ∙ e))))
 
-pub leads-to-target-requires : goal.leads-to-target-requires
-leads-to-target-requires g c =
+pub leads_to_target-requires : goal.leads_to_target-requires
+leads_to_target-requires g c =
     let way = c.args.way.now in
     let long = length_push (way_to c.args.nodes.now way.parent way.parent) way.action in
-    record { link = c.if-way-nodes.false; long = long ∙ ap (λ n. n + 1) (sym c.trace-back-back.ensures.links) ∙ c.if-back-way.false }
+    record { link = c.if-way-nodes.false; long = long ∙ ap (λ n. n + 1) (sym c.trace_back-back.ensures.links) ∙ c.if-back-way.false }
 
 pub returns : goal.returns
 returns g c =
     let way = c.args.way.now in
     let long = length_push (way_to c.args.nodes.now way.parent way.parent) way.action in
-    c.leads-to-target.ensures
+    c.leads_to_target.ensures
     ∙ sym
     (and_passed _ _ (lt-ltb _ _ c.if-way-nodes.false)
-    ∙ and_passed _ _ (eq-eqb _ _ (sym c.trace-back-back.ensures.root ∙ c.if-back-ne0.false))
-    ∙ and_passed _ _ (eq-eqb _ _ (long ∙ ap (λ n. n + 1) (sym c.trace-back-back.ensures.links) ∙ c.if-back-way.false)))
+    ∙ and_passed _ _ (eq-eqb _ _ (sym c.trace_back-back.ensures.root ∙ c.if-back-ne0.false))
+    ∙ and_passed _ _ (eq-eqb _ _ (long ∙ ap (λ n. n + 1) (sym c.trace_back-back.ensures.links) ∙ c.if-back-way.false)))

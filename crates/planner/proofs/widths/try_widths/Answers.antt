@@ -10,14 +10,14 @@ pub loop-width-init : goal.loop-width-init
 loop-width-init g c = (refl, refl, refl, λ k lt. absurd (omega arith), refl)
 
 -- the search by this width was refused
-pub returns-in-err-reply : goal.returns-in-err-reply
-returns-in-err-reply g c =
-    let p = err_from_is_err_and c.from-residual.result c.from-residual.ensures.1 in
+pub returns-in_err-reply : goal.returns-in_err-reply
+returns-in_err-reply g c =
+    let p = err_from_is_err_and c.from_residual.result c.from_residual.ensures.1 in
     let P = g.D.StateModel.meaning c.args.model.now in
     let inv = c.loop-width.invariant in
     let n : length c.args.nodes.now ≡ length c.loop-width.nodes = omega arith in
     let m : length c.args.marks.now ≡ length c.loop-width.marks = omega arith in
-    let fault = refused_by _ _ c.in-err-reply.field-0.0 (sym c.width-search.ensures.value ∙ c.in-err-reply.was) in
+    let fault = refused_by _ _ c.in_err-reply.field-0.0 (sym c.width_search.ensures.value ∙ c.in_err-reply.was) in
     rw (p.1, p.2) (
       inv.4,
       (
@@ -28,23 +28,23 @@ returns-in-err-reply g c =
     )
 
 -- the way was refused: it holds, so the list is too short
-pub returns-in-err-attempts : goal.returns-in-err-attempts
-returns-in-err-attempts g c =
-    let p = err_from_is_err_and c.from-residual-in-err-attempts.result c.from-residual-in-err-attempts.ensures.1 in
+pub returns-in_err-attempts : goal.returns-in_err-attempts
+returns-in_err-attempts g c =
+    let p = err_from_is_err_and c.from_residual-in_err-attempts.result c.from_residual-in_err-attempts.ensures.1 in
     let P = g.D.StateModel.meaning c.args.model.now in
     let inv = c.loop-width.invariant in
-    let end = c.width-search.new.nodes in
+    let end = c.width_search.new.nodes in
     let way = c.in-Found.way in
-    let e = c.in-err-attempts.field-0.0 in
-    let here = c.width-search.ensures.searched c.in-ok-reply.reply c.in-ok-reply.was in
-    let fault = written_by _ _ e (sym c.write-way.ensures.reply ∙ c.in-err-attempts.was) in
+    let e = c.in_err-attempts.field-0.0 in
+    let here = c.width_search.ensures.searched c.in_ok-reply.reply c.in_ok-reply.was in
+    let fault = written_by _ _ e (sym c.write_way.ensures.reply ∙ c.in_err-attempts.was) in
     let full = full_by P end way (length c.loop-width.plan) e (here.findings.findings.holds way c.in-Found.is) fault in
     rw (p.1, p.2) (
-      c.write-way.ensures.after ∙ ap (λ f. written_list f (actions_of end way) c.loop-width.plan) fault ∙ inv.4,
+      c.write_way.ensures.after ∙ ap (λ f. written_list f (actions_of end way) c.loop-width.plan) fault ∙ inv.4,
       (
         c.loop-width.width,
         c.loop-width-test.true,
-        inr (full.0, (end, c.in-ok-reply.reply, way, here, c.in-Found.is, subst (λ xs. length xs < way.length) inv.4 full.1)),
+        inr (full.0, (end, c.in_ok-reply.reply, way, here, c.in-Found.is, subst (λ xs. length xs < way.length) inv.4 full.1)),
       ),
     )
 
@@ -55,11 +55,11 @@ returns-in-Found g c =
     let inv = c.loop-width.invariant in
     let k = c.loop-width.width in
     let replies = c.loop-width.attempts.replies in
-    let reply = c.in-ok-reply.reply in
-    let end = c.width-search.new.nodes in
+    let reply = c.in_ok-reply.reply in
+    let end = c.width_search.new.nodes in
     let way = c.in-Found.way in
-    let here = c.width-search.ensures.searched reply c.in-ok-reply.was in
-    let done = written_ok _ _ _ (sym c.write-way.ensures.reply ∙ c.in-ok-attempts.was) in
+    let here = c.width_search.ensures.searched reply c.in_ok-reply.was in
+    let done = written_ok _ _ _ (sym c.write_way.ensures.reply ∙ c.in_ok-attempts.was) in
     let within : k < length replies = omega (arith, inv.2) in
     let is : get_or (set replies k reply) k unmade ≡ reply = get_or-set_same replies k reply unmade within in
     let long = here.findings.findings.long way c.in-Found.is in
@@ -72,7 +72,7 @@ returns-in-Found g c =
       exhausted_same P k replies reply inv.3,
       subst (Searched P k end) (sym is) here,
       ap (λ r. r.outcome) is ∙ c.in-Found.is,
-      c.write-way.ensures.after ∙ ap (λ f. written_list f (actions_of end way) c.loop-width.plan) done.0
+      c.write_way.ensures.after ∙ ap (λ f. written_list f (actions_of end way) c.loop-width.plan) done.0
           ∙ ap (λ n. actions_of end way ++ drop n c.loop-width.plan) long ∙ ap (λ xs. actions_of end way ++ drop way.length xs) inv.4,
     )
 
@@ -82,14 +82,14 @@ loop-width-preserved g c =
     let P = g.D.StateModel.meaning c.args.model.now in
     let inv = c.loop-width.invariant in
     let k = c.loop-width.width in
-    let reply = c.in-ok-reply.reply in
-    let here = c.width-search.ensures.searched reply c.in-ok-reply.was in
+    let reply = c.in_ok-reply.reply in
+    let here = c.width_search.ensures.searched reply c.in_ok-reply.was in
     let within : k < length c.loop-width.attempts.replies = omega (arith, inv.2) in (
       refl,
       inv.1,
       length-set c.loop-width.attempts.replies k reply ∙ inv.2,
-      exhausted_more P k c.loop-width.attempts.replies reply c.width-search.new.nodes within inv.3 here
-          (ended_exhausted reply.outcome c.in-default.not-Found here.findings.ends),
+      exhausted_more P k c.loop-width.attempts.replies reply c.width_search.new.nodes within inv.3 here
+          (ended_exhausted reply.outcome c.in_default.not-Found here.findings.ends),
       inv.4,
     )
 

@@ -3,8 +3,8 @@ use Rattle.planner.specs.Whole.{linked}
 use Rattle.planner.proofs.Lawful.{count_above_0}
 use Rattle.planner.proofs.stepwise.Search.begin.Goals as goal
 
-pub invariant-of-result : goal.invariant-of-result
-invariant-of-result g c =
+pub invariant_of-result : goal.invariant_of-result
+invariant_of-result g c =
     let m = c.args.measure in
     let laws = g.met.M.Measure in
     let some = count_above_0 _ (g.D.StateModel.lawful c.args.model.now) (g.M.Measure.keys m) (g.M.Measure.total m) (laws.below m) (laws.some m) in
@@ -12,4 +12,9 @@ invariant-of-result g c =
     let counted = c.count-count.ensures in
     let one = ap (λ h. h.kept) c.begin-progress.ensures in
     let none = ap (λ h. h.expanded) c.begin-progress.ensures in
-    (omega arith, (omega arith, (omega arith, (ap (λ h. linked c.count-count.result h.met) c.begin-progress.ensures, tt))))
+    record {
+      few = omega arith;
+      kept = omega arith;
+      expanded = omega arith;
+      within = ap (λ h. linked c.count-count.result h.met) c.begin-progress.ensures;
+    }
