@@ -1,6 +1,7 @@
 -- Runs: where a run stands, and what each call replies and leaves, for all arguments. Assumes nothing.
 use Rattle.std.specs.Prelude.{ℕ, ◌+◌, min, Bool, true, false, cond, not, ◌&&◌, ◌||◌, eqb, ltb, List, [], ◌++◌, length, get_or, take, drop, is_some, Some, None, Ok, Err, Option, Result}
 use Rattle.domain.specs.Model.{Meaning}
+use Rattle.domain.specs.declared.model.StateModel.{Ghosts}
 use Rattle.domain.specs.declared.refusal.Refusal.{Refusal}
 use Rattle.domain.specs.declared.refusal.Refusal.TheVariants.{AtTarget, SearchOpen, ManySearches, FewPlaces, ForeignClaim, PlanFull, BrokenWay, NoStep}
 use Rattle.sketch.specs.Subproblem.{subproblem}
@@ -35,7 +36,7 @@ under None = None
 under (Some s) = Some (standing s)
 
 -- where a run stands, without the facts of its type; `meaning` is what its model means
-abbrev pub view : {D M S : Type 0} → (D → Meaning S) → Run D M S → View S M
+abbrev pub view : {D M S : Type 0} {bound : Ghosts D S} → (D → Meaning S) → Run D M S bound → View S M
 view meaning r = record {
   problem = meaning r.model;
   sketch = r.sketch;

@@ -21,6 +21,6 @@ returns-in-Ok g c =
     let plan = c.args.plan.now in
     record {
       reply = reply_ok v c.args.find.number nodes plan _ c.in-Ok.length made.reply refl c.args.find;
-      run = run_ok v c.args.find.number nodes plan _ c.in-Ok.length made.reply refl _ c.write-found.new.plan made.after c.take_up.ensures;
+      run = run_ok v c.args.find.number nodes plan _ c.in-Ok.length made.reply refl _ c.write_found.new.plan made.after c.take_up.ensures;
       plan = made.after;
     }

@@ -11,7 +11,7 @@ returns-in-Some g c =
     let marks = c.args.marks.now in
     let u = standing c.in-Some.search in
     let is = ap under c.in-Some.is in
-    let latest = sym c.if-not-is-latest.ensures in
+    let latest = sym c.if-not-is_latest.ensures in
     let made = c.advance.ensures in
     record {
       reply = reply_from v g.M.Measure.keys c.args.number c.args.budget nodes marks u is latest _ c.new-here.ensures _ made.reply;

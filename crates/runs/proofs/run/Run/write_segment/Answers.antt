@@ -25,7 +25,7 @@ returns g c =
     let plan = c.args.plan.now in
     record {
       reply = reply_is v way c.args.count nodes plan c.if-nodes-count.false c.min-end.result c.min-end.ensures
-          c.if-end-used.false _ c.new-here.ensures _ c.write-way.ensures.reply;
+          c.if-end-used.false _ c.new-here.ensures _ c.write_way.ensures.reply;
       after = list_is v way c.args.count nodes plan c.if-nodes-count.false c.min-end.result c.min-end.ensures
-          c.if-end-used.false _ c.new-here.ensures _ c.write-way.ensures.after;
+          c.if-end-used.false _ c.new-here.ensures _ c.write_way.ensures.after;
     }
