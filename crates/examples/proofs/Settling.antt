@@ -5,10 +5,7 @@ use Rattle.domain.specs.Atoms.{members}
 use Rattle.novelty.specs.Binomials.{choose}
 use Rattle.novelty.specs.Tuples.{tuple_keys}
 use Rattle.planner.specs.Search.{tried_from, advanced}
-use Rattle.planner.specs.Way.{way_to, root, link_count}
-use Rattle.sketch.specs.Below.{some_below, every_below, lowest}
-use Rattle.sketch.specs.Fault.{rule_fits, first_unfit}
-use Rattle.sketch.specs.Sieve.{raised, lowered, justifies, strikable, strike, strikes, sieve, rules_left}
+use Rattle.planner.specs.Way.{way_to}
 use Rattle.planner.specs.declared.node.Way.{Way}
 use Rattle.examples.specs.Examples.{Settled, examples}
 
@@ -17,7 +14,7 @@ abbrev way : ℕ → ℕ → ℕ → Way
 way parent action length = record { parent = parent; action = action; length = length }
 
 pub all_settled : All Settled examples
-unfolding members choose tuple_keys tried_from advanced way_to root link_count some_below every_below lowest raised lowered justifies strikable strike strikes sieve rules_left rule_fits first_unfit
+unfolding members choose tuple_keys tried_from advanced way_to
 all_settled = (
   (way 2 2 3, refl, refl, refl),
   (
@@ -28,7 +25,7 @@ all_settled = (
         refl,
         (
           (way 3 2 3, refl, refl, refl),
-          (refl, (refl, (refl, ((way 3 2 3, refl, refl, refl), (refl, (refl, (refl, (refl, (refl, (refl, (refl, (refl, (refl, tt))))))))))))),
+          (refl, (refl, (refl, ((way 3 2 3, refl, refl, refl), (refl, (refl, (refl, (refl, tt)))))))),
         ),
       ),
     ),

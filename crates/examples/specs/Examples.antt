@@ -1,20 +1,12 @@
 -- Worked examples, each settled from the definitions that the contracts of the library call. Assumes nothing.
-use Rattle.std.specs.Prelude.{◌≡◌, ℕ, ◌+◌, Bool, true, false, List, [], ◌∷◌, map, length, replicate, Some, None, Option}
+use Rattle.std.specs.Prelude.{◌≡◌, ℕ, ◌+◌, List, [], ◌∷◌, map, length, replicate, Some}
 use Rattle.domain.specs.Atoms.{none, with_atom}
 use Rattle.domain.specs.Model.{Meaning}
 use Rattle.domain.specs.Strips.{problem}
 use Rattle.domain.specs.declared.atoms.AtomSet.{AtomSet}
-use Rattle.domain.specs.declared.refusal.Refusal.{Refusal}
-use Rattle.domain.specs.declared.refusal.Refusal.TheVariants.{ManyKeys, RulesLeft}
+use Rattle.domain.specs.declared.refusal.Refusal.TheVariants.{ManyKeys}
 use Rattle.domain.specs.declared.strips.Action.{Action}
 use Rattle.novelty.specs.Tuples.{rank, tuple_count, tuples_fault}
-use Rattle.sketch.specs.Fault.{sketch_fault}
-use Rattle.sketch.specs.Sieve.{sieve}
-use Rattle.sketch.specs.declared.feature.Feature.{Feature}
-use Rattle.sketch.specs.declared.feature.Kind.{Kind}
-use Rattle.sketch.specs.declared.feature.Kind.TheVariants.{Boolean, TrueCount}
-use Rattle.sketch.specs.declared.rule.Rule.{Rule}
-use Rattle.examples.specs.Sketches.{switch, carried, take_up, bring, put_down, come_near, carry_on}
 use Rattle.planner.specs.Search.{Snapshot, node, advanced, begun}
 use Rattle.planner.specs.Way.{actions_of}
 use Rattle.planner.specs.Whole.{reply_of}
@@ -59,10 +51,6 @@ exhausted_with expanded kept = record { outcome = Exhausted; expanded = expanded
 abbrev pub found_with : Way → ℕ → ℕ → Reply
 found_with w expanded kept = record { outcome = Found w; expanded = expanded; kept = kept }
 
--- features of these kinds, over no atoms
-abbrev pub of_kinds : List Kind → List Feature
-of_kinds ks = map (λ k. record { kind = k; atoms = none }) ks
-
 pub data Example : Type 0 where
   -- a search of a problem by sets of at most k atoms, in n places, advanced by these numbers, the last first, replies so
   replies : Meaning AtomSet → ℕ → ℕ → List ℕ → Reply → Example
@@ -74,10 +62,6 @@ pub data Example : Type 0 where
   too_many : ℕ → ℕ → Example
   -- the key of a set of atoms below N
   key_of : ℕ → List ℕ → ℕ → Example
-  -- features of these kinds and these rules are accepted as a sketch, or refused so
-  judged : List Kind → List Rule → Option Refusal → Example
-  -- the sieve leaves the rules that have a flag
-  leaves : List Kind → List Rule → List Bool → Example
 
 -- what it is for an example to hold
 abbrev pub Settled : Example → Type 0
@@ -88,8 +72,6 @@ Settled (finds P k n budgets way expanded kept) =
 Settled (keys_of_sets N k c) = tuple_count N k ≡ c
 Settled (too_many N k) = tuples_fault N k ≡ Some ManyKeys
 Settled (key_of N set k) = rank N set ≡ k
-Settled (judged ks rs r) = sketch_fault (of_kinds ks) rs ≡ r
-Settled (leaves ks rs flags) = sieve ks rs ≡ flags
 
 abbrev pub examples : List Example
 examples =
@@ -106,9 +88,4 @@ examples =
     ∷ too_many 74 3
     ∷ key_of 4 (3 ∷ []) 4
     ∷ key_of 4 (1 ∷ 3 ∷ []) 9
-    ∷ judged (Boolean ∷ TrueCount ∷ []) switch (Some (RulesLeft 2))
-    ∷ judged carried (take_up ∷ bring ∷ []) None
-    ∷ judged carried (put_down ∷ take_up ∷ []) (Some (RulesLeft 2))
-    ∷ judged carried (take_up ∷ bring ∷ come_near ∷ carry_on ∷ []) (Some (RulesLeft 2))
-    ∷ leaves carried (take_up ∷ bring ∷ come_near ∷ carry_on ∷ []) (false ∷ false ∷ true ∷ true ∷ [])
     ∷ []

@@ -5,6 +5,7 @@ ghost use Rattle.std.specs.Prelude.{◌≡◌, length};
 ghost use Rattle.std.specs.List.{AllByRecursion as All};
 ghost use Rattle.examples.specs.Counter.{CounterAdmissible};
 ghost use Rattle.examples.specs.Examples.{Settled, examples};
+ghost use Rattle.examples.specs.Sketches.{SketchSettled, sketch_examples};
 
 #[cfg(test)]
 mod plain;
@@ -17,5 +18,13 @@ pub fn settled() -> usize
     ensures all { All Settled examples }
     ensures admissible { CounterAdmissible }
 {
-    18
+    13
+}
+
+// How many examples of sketches are settled: all of them.
+pub fn sketches_settled() -> usize
+    ensures count { result ≡ length sketch_examples }
+    ensures all { All SketchSettled sketch_examples }
+{
+    5
 }

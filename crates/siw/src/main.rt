@@ -1,37 +1,75 @@
-// Solves a problem text along its sketch, and prints the searches and the plan, or the refusal.
-// The text comes from standard input, or from the file that the argument names.
+// Solves the built-in blocks problem by searches of rising width, and prints the searches and the plan.
 #![tactic(auto)]
 
-use anyhow::anyhow;
-use domain::refusal::Refusal;
-use report::{PLACES, ROWS, blank_row, print_result, solve_text};
-use solver::report::{Report, Row};
-use std::io::Read;
-use std::{env, fs};
+mod blocks;
 
-fn solve_input(
-    rt: &HostRuntime,
-    plan: &mut [usize],
-    rows: &mut [Row],
-) -> anyhow::Result<Result<Report, Refusal>> {
-    let mut text = Vec::new(rt.alloc());
-    rt.stdin().read_to_end(&mut text)?;
-    Ok(solve_text(&text, plan, rows))
+use domain::atoms::AtomSet;
+use domain::model::StateModel;
+use domain::refusal::Refusal;
+use domain::strips::Strips;
+use planner::node::{Node, Outcome, Reply};
+use planner::widths::{Attempts, try_widths};
+use std::io;
+
+const PLACES: usize = 512;
+
+// Solves the problem in memory of its own, and writes the plan.
+fn solve(plan: &mut [usize]) -> Result<Attempts, Refusal> {
+    let table = blocks::actions();
+    let model = Strips::new(blocks::ATOMS, blocks::start(), blocks::goal(), &table)?;
+    let mut nodes = [Node {
+        state: AtomSet::empty(),
+        parent: 0,
+        action: 0,
+    }; PLACES];
+    let mut marks = [0u8; PLACES];
+    try_widths(&model, &mut nodes, &mut marks, plan)
 }
 
-fn main(rt: HostRuntime) -> anyhow::Result<()> {
-    let mut plan = [0; PLACES];
-    let mut rows = [blank_row(); ROWS];
-    let result = match env::args(&rt)?.skip(1).next() {
-        Some(path) => {
-            let text = fs::read(&rt, path.as_str())?;
-            solve_text(&text, &mut plan, &mut rows)
-        }
-        None => solve_input(&rt, &mut plan, &mut rows)?,
+// One line a search: its number, the width, whether it found a way, the expanded and kept states, and the length.
+fn print_searches(rt: &HostRuntime, attempts: &Attempts) -> io::Result<()> {
+    println!(rt; "search k found expanded kept length")?;
+    for (k, reply) in attempts.replies.iter().take(attempts.tried).enumerate() {
+        print_search(rt, k, reply)?;
+    }
+    Ok(())
+}
+
+fn print_search(rt: &HostRuntime, k: usize, reply: &Reply) -> io::Result<()> {
+    let (found, length) = match reply.outcome {
+        Outcome::Found(way) => (1, way.length()),
+        Outcome::Exhausted | Outcome::Open => (0, 0),
     };
-    print_result(&rt, &result, &plan, &rows)?;
-    match result {
-        Ok(_) => Ok(()),
-        Err(_) => Err(anyhow!("refused")),
+    let number = k.saturating_add(1);
+    let expanded = reply.expanded;
+    let kept = reply.kept;
+    println!(rt; "{number} {k} {found} {expanded} {kept} {length}")
+}
+
+// One line a step: its number and the action.
+fn print_plan(rt: &HostRuntime, plan: &[usize], steps: usize) -> io::Result<()> {
+    println!(rt; "")?;
+    println!(rt; "step action")?;
+    for (step, action) in plan.iter().take(steps).enumerate() {
+        println!(rt; "{step} {action}")?;
+    }
+    Ok(())
+}
+
+fn print_refusal(rt: &HostRuntime, refusal: &Refusal) -> io::Result<()> {
+    let number = refusal.number();
+    let place = refusal.place();
+    println!(rt; "refusal place")?;
+    println!(rt; "{number} {place}")
+}
+
+fn main(rt: HostRuntime) -> io::Result<()> {
+    let mut plan = [0; PLACES];
+    match solve(&mut plan) {
+        Ok(attempts) => {
+            print_searches(&rt, &attempts)?;
+            print_plan(&rt, &plan, attempts.steps)
+        }
+        Err(refusal) => print_refusal(&rt, &refusal),
     }
 }

@@ -8,3 +8,4 @@ pub mod Sound
 pub mod States
 pub mod Strikes
 pub mod Values
+pub mod Worked

@@ -1,5 +1,6 @@
 pub mod Below
 pub mod Entry
+pub mod Examples
 pub mod Fault
 pub mod Feature
 pub mod Held

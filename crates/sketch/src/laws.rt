@@ -1,4 +1,5 @@
 // What the sieve is for, as theorems over valuations: no model is in sight here.
+ghost use Rattle.sketch.specs.Examples.{Examples};
 ghost use Rattle.sketch.specs.Laws.{AcceptanceSound, OrderFree, EntriesSound};
 ghost use Rattle.sketch.specs.Sketch.{StatesApart};
 ghost use Rattle.sketch.specs.Words.{AcceptsDecided};
@@ -12,6 +13,13 @@ pub fn laws_hold() -> bool
     ensures entries { EntriesSound }
     ensures states { StatesApart }
     ensures words { AcceptsDecided }
+{
+    true
+}
+
+// The examples of `specs/Examples.antt`.
+pub fn examples_hold() -> bool
+    ensures { Examples }
 {
     true
 }

@@ -8,55 +8,55 @@ use Rattle.solver.proofs.Attempting.{told_refused, told_given, not_both, settle_
 use Rattle.solver.proofs.attempt.attempt.Goals as goal
 
 -- the search was refused
-pub returns-in-err-claim : goal.returns-in-err-claim
-returns-in-err-claim g c =
-    let p = err_from_is_err_and c.from-residual.result c.from-residual.ensures.1 in
+pub returns-in_err-claim : goal.returns-in_err-claim
+returns-in_err-claim g c =
+    let p = err_from_is_err_and c.from_residual.result c.from_residual.ensures.1 in
     let v = view g.D.StateModel.meaning c.args.run.now in
     let N = c.args.atoms in
     let k = c.args.width in
     let nodes = c.args.nodes.now in
     let marks = c.args.marks.now in
     let plan = c.args.plan.now in
-    let e = c.in-err-claim.field-0.0 in
+    let e = c.in_err-claim.field-0.0 in
     let end = ended N k v nodes marks in
-    let refused = told_refused _ _ e (sym c.search-here.ensures.reply ∙ c.in-err-claim.was) in
+    let refused = told_refused _ _ e (sym c.search_here.ensures.reply ∙ c.in_err-claim.was) in
     let fault : attempt_fault N k v nodes marks plan ≡ Some e = ap (λ f. first_of f (closing_fault N k v end (length plan))) refused in
-    let is : c.from-residual.result ≡ Err e = cc in
+    let is : c.from_residual.result ≡ Err e = cc in
     record {
       reply = is ∙ sym (ap (λ f. told f (row_of c.args.number k end)) fault);
       run = λ row ok. absurd (not_both _ e row is ok);
-      nodes = c.search-here.ensures.nodes;
-      marks = c.search-here.ensures.marks;
+      nodes = c.search_here.ensures.nodes;
+      marks = c.search_here.ensures.marks;
       plan = sym (ap (λ f. unless f plan (plan_written N k v nodes marks (way_at end) plan)) fault);
     }
 
 -- the way that was found was not adopted
-pub returns-in-err-steps : goal.returns-in-err-steps
-returns-in-err-steps g c =
-    let p = err_from_is_err_and c.from-residual-in-err-steps.result c.from-residual-in-err-steps.ensures.1 in
+pub returns-in_err-steps : goal.returns-in_err-steps
+returns-in_err-steps g c =
+    let p = err_from_is_err_and c.from_residual-in_err-steps.result c.from_residual-in_err-steps.ensures.1 in
     let v = view g.D.StateModel.meaning c.args.run.now in
     let N = c.args.atoms in
     let k = c.args.width in
     let nodes = c.args.nodes.now in
     let marks = c.args.marks.now in
     let plan = c.args.plan.now in
-    let e = c.in-err-steps.field-0.0 in
+    let e = c.in_err-steps.field-0.0 in
     let end = ended N k v nodes marks in
-    let work = c.in-ok-claim.field-0 in
-    let w = view g.D.StateModel.meaning c.search-here.new.run in
-    let done = told_given _ _ work (sym c.search-here.ensures.reply ∙ c.in-ok-claim.was) in
-    let X = c.search-here.ensures.run work c.in-ok-claim.was in
+    let work = c.in_ok-claim.field-0 in
+    let w = view g.D.StateModel.meaning c.search_here.new.run in
+    let done = told_given _ _ work (sym c.search_here.ensures.reply ∙ c.in_ok-claim.was) in
+    let X = c.search_here.ensures.run work c.in_ok-claim.was in
     let fault : attempt_fault N k v nodes marks plan ≡ Some e =
-    settle_refused N k v nodes marks plan done.0 w X work.claim (ap (λ x. x.claim) done.1) c.search-here.new.nodes c.search-here.ensures.nodes _ e
-    c.settle.ensures.reply c.in-err-steps.was in
-    let is : c.from-residual-in-err-steps.result ≡ Err e = cc in
+    settle_refused N k v nodes marks plan done.0 w X work.claim (ap (λ x. x.claim) done.1) c.search_here.new.nodes c.search_here.ensures.nodes _ e
+    c.settle.ensures.reply c.in_err-steps.was in
+    let is : c.from_residual-in_err-steps.result ≡ Err e = cc in
     record {
       reply = is ∙ sym (ap (λ f. told f (row_of c.args.number k end)) fault);
       run = λ row ok. absurd (not_both _ e row is ok);
-      nodes = c.search-here.ensures.nodes;
-      marks = c.search-here.ensures.marks;
-      plan = settle_plan N k v nodes marks plan done.0 w X work.claim (ap (λ x. x.claim) done.1) c.search-here.new.nodes
-          c.search-here.ensures.nodes _ c.settle.ensures.plan;
+      nodes = c.search_here.ensures.nodes;
+      marks = c.search_here.ensures.marks;
+      plan = settle_plan N k v nodes marks plan done.0 w X work.claim (ap (λ x. x.claim) done.1) c.search_here.new.nodes
+          c.search_here.ensures.nodes _ c.settle.ensures.plan;
     }
 
 pub returns : goal.returns
@@ -68,22 +68,22 @@ returns g c =
     let marks = c.args.marks.now in
     let plan = c.args.plan.now in
     let end = ended N k v nodes marks in
-    let work = c.in-ok-claim.field-0 in
-    let w = view g.D.StateModel.meaning c.search-here.new.run in
-    let done = told_given _ _ work (sym c.search-here.ensures.reply ∙ c.in-ok-claim.was) in
-    let X = c.search-here.ensures.run work c.in-ok-claim.was in
-    let n = c.in-ok-steps.steps in
-    let given = settle_given N k v nodes marks plan done.0 w X work.claim (ap (λ x. x.claim) done.1) c.search-here.new.nodes
-    c.search-here.ensures.nodes _ n c.settle.ensures.reply c.in-ok-steps.was in
+    let work = c.in_ok-claim.field-0 in
+    let w = view g.D.StateModel.meaning c.search_here.new.run in
+    let done = told_given _ _ work (sym c.search_here.ensures.reply ∙ c.in_ok-claim.was) in
+    let X = c.search_here.ensures.run work c.in_ok-claim.was in
+    let n = c.in_ok-steps.steps in
+    let given = settle_given N k v nodes marks plan done.0 w X work.claim (ap (λ x. x.claim) done.1) c.search_here.new.nodes
+    c.search_here.ensures.nodes _ n c.settle.ensures.reply c.in_ok-steps.was in
     record {
       reply =
           ap Ok (attempt_row end c.args.number k n (ltb 0 n) work.expanded work.kept (ap (λ x. x.expanded) done.1) (ap (λ x. x.kept) done.1) given.1 refl)
           ∙ sym (ap (λ f. told f (row_of c.args.number k end)) given.0);
       run = λ _ _.
-          settle_run N k v nodes marks plan done.0 w X work.claim (ap (λ x. x.claim) done.1) c.search-here.new.nodes
-          c.search-here.ensures.nodes _ c.settle.ensures.run given.0;
-      nodes = c.search-here.ensures.nodes;
-      marks = c.search-here.ensures.marks;
-      plan = settle_plan N k v nodes marks plan done.0 w X work.claim (ap (λ x. x.claim) done.1) c.search-here.new.nodes
-          c.search-here.ensures.nodes _ c.settle.ensures.plan;
+          settle_run N k v nodes marks plan done.0 w X work.claim (ap (λ x. x.claim) done.1) c.search_here.new.nodes
+          c.search_here.ensures.nodes _ c.settle.ensures.run given.0;
+      nodes = c.search_here.ensures.nodes;
+      marks = c.search_here.ensures.marks;
+      plan = settle_plan N k v nodes marks plan done.0 w X work.claim (ap (λ x. x.claim) done.1) c.search_here.new.nodes
+          c.search_here.ensures.nodes _ c.settle.ensures.plan;
     }

@@ -7,20 +7,20 @@ use Rattle.solver.proofs.Attempting.{told_refused, told_given, not_both, refused
 use Rattle.solver.proofs.attempt.search_here.Goals as goal
 
 -- begin was refused
-pub returns-in-err-ticket : goal.returns-in-err-ticket
-returns-in-err-ticket g c =
-    let p = err_from_is_err_and c.from-residual-in-err-ticket.result c.from-residual-in-err-ticket.ensures.1 in
+pub returns-in_err-ticket : goal.returns-in_err-ticket
+returns-in_err-ticket g c =
+    let p = err_from_is_err_and c.from_residual-in_err-ticket.result c.from_residual-in_err-ticket.ensures.1 in
     let v = view g.D.StateModel.meaning c.args.run.now in
     let N = c.args.atoms in
     let k = c.args.width in
     let nodes = c.args.nodes.now in
     let marks = c.args.marks.now in
-    let made = c.in-ok-measure.ensures.answer in
-    let m = c.in-ok-measure.measure in
-    let e = c.in-err-ticket.field-0.0 in
-    let refused = told_refused _ _ e (sym c.begin.ensures.reply ∙ c.in-err-ticket.was) in
+    let made = c.in_ok-measure.ensures.answer in
+    let m = c.in_ok-measure.measure in
+    let e = c.in_err-ticket.field-0.0 in
+    let refused = told_refused _ _ e (sym c.begin.ensures.reply ∙ c.in_err-ticket.was) in
     let fault : opening_fault N k v (length nodes) (length marks) ≡ Some e = sym (opening_is v N k m made.1 made.2 made.0 nodes marks) ∙ refused in
-    let is : c.from-residual-in-err-ticket.result ≡ Err e = cc in
+    let is : c.from_residual-in_err-ticket.result ≡ Err e = cc in
     record {
       reply = is ∙ sym (ap (λ f. told f (worked_reply v (v.searches + 1) (ended N k v nodes marks))) fault);
       run = λ w ok. absurd (not_both _ e w is ok);
@@ -38,16 +38,16 @@ returns g c =
     let marks = c.args.marks.now in
     let states = c.begin.new.nodes in
     let table = c.begin.new.marks in
-    let made = c.in-ok-measure.ensures.answer in
-    let m = c.in-ok-measure.measure in
-    let t = c.in-ok-ticket.ticket in
-    let given = told_given _ _ t (sym c.begin.ensures.reply ∙ c.in-ok-ticket.was) in
+    let made = c.in_ok-measure.ensures.answer in
+    let m = c.in_ok-measure.measure in
+    let t = c.in_ok-ticket.ticket in
+    let given = told_given _ _ t (sym c.begin.ensures.reply ∙ c.in_ok-ticket.was) in
     let same_states : length states ≡ length nodes = omega arith in
     let same_table : length table ≡ length marks = omega arith in
     record {
       reply =
           search_reply v N k m made.1 made.2 made.0 nodes marks given.0 w t states table c.count-budget.result c.begin.ensures.run given.1
-          c.begin.ensures.nodes c.begin.ensures.marks c.count-budget.ensures same_states same_table _ _ c.work.ensures.reply c.spend-refused.ensures;
+          c.begin.ensures.nodes c.begin.ensures.marks c.count-budget.ensures same_states same_table _ _ c.work.ensures.reply c.spend_refused.ensures;
       run = λ _ _.
           search_run v N k m made.1 made.2 made.0 nodes marks given.0 w t states table c.count-budget.result c.begin.ensures.run given.1
           c.begin.ensures.nodes c.begin.ensures.marks c.count-budget.ensures same_states same_table _ c.work.ensures.run;

@@ -34,9 +34,9 @@ returns-then-made-rows g c =
     }
 
 -- the search was refused, or what it found was not adopted
-pub returns-in-err-row : goal.returns-in-err-row
-returns-in-err-row g c =
-    let p = err_from_is_err_and c.from-residual.result c.from-residual.ensures.1 in
+pub returns-in_err-row : goal.returns-in_err-row
+returns-in_err-row g c =
+    let p = err_from_is_err_and c.from_residual.result c.from_residual.ensures.1 in
     let P = g.D.StateModel.meaning c.args.model in
     let l = c.loop-run in
     let N = c.atoms-atoms.result in
@@ -46,9 +46,9 @@ returns-in-err-row g c =
     let off : v.problem.target v.current ≡ false = sym c.loop-run-test.ensures in
     let free : length l.rows - l.made ≡ suc (length l.rows - (l.made + 1)) = omega arith in
     let start = ap₂ (λ a w. solve_from a (length c.args.rows.now) 0 w before) (sym c.atoms-atoms.ensures) (sym c.new-run.ensures.value) in
-    let e = c.in-err-row.field-0.0 in
-    let fault : fault_at N l.width v mem ≡ Some e = told_refused _ _ e (sym c.attempt.ensures.reply ∙ c.in-err-row.was) in
-    let is : c.from-residual.result ≡ Err e = cc in
+    let e = c.in_err-row.field-0.0 in
+    let fault : fault_at N l.width v mem ≡ Some e = told_refused _ _ e (sym c.attempt.ensures.reply ∙ c.in_err-row.was) in
+    let is : c.from_residual.result ≡ Err e = cc in
     let done : solved P c.args.sketch before ≡ answer (Err e) (memory_after N l.width v mem) =
     start ∙ l.invariant.0 ∙ ends_refused N l.width v mem off (length l.rows - l.made) (length l.rows - (l.made + 1)) free e fault in
     record {
@@ -72,14 +72,14 @@ returns-in-None g c =
     let off : v.problem.target v.current ≡ false = sym c.loop-run-test.ensures in
     let free : length l.rows - l.made ≡ suc (length l.rows - (l.made + 1)) = omega arith in
     let start = ap₂ (λ a w. solve_from a (length c.args.rows.now) 0 w before) (sym c.atoms-atoms.ensures) (sym c.new-run.ensures.value) in
-    let row = c.in-ok-row.row in
-    let made = told_given _ _ row (sym c.attempt.ensures.reply ∙ c.in-ok-row.was) in
-    let stands = c.attempt.ensures.run row c.in-ok-row.was in
+    let row = c.in_ok-row.row in
+    let made = told_given _ _ row (sym c.attempt.ensures.reply ∙ c.in_ok-row.was) in
+    let stands = c.attempt.ensures.run row c.in_ok-row.was in
     let written = row_written N l.width v mem l.made row l.invariant.1 made.1 made.0 in
     let last : next_width (found_at N l.width v mem) l.width ≡ None = ap (λ r. next_width r.found l.width) (sym made.1) ∙ sym c.in-None.ensures in
     let done : solved P c.args.sketch before ≡ answer (Ok (report (view_after N l.width v mem) ThirdStub)) (memory_after N l.width v mem) =
     start ∙ l.invariant.0 ∙ ends_with_stub N l.width v mem off (length l.rows - l.made) (length l.rows - (l.made + 1)) free made.0 last in
-    let ends = ap₂ (λ a b. Ok (record { rows = a; steps = b; ending = ThirdStub })) (ap (λ n. n + 1) (sym l.invariant.1)) (c.plan-length.ensures ∙ ap (λ w. w.length) stands) in
+    let ends = ap₂ (λ a b. Ok (record { rows = a; steps = b; ending = ThirdStub })) (ap (λ n. n + 1) (sym l.invariant.1)) (c.plan_length.ensures ∙ ap (λ w. w.length) stands) in
     record {
       reply = ends ∙ sym (ap (λ a. a.reply) done);
       nodes = c.attempt.ensures.nodes ∙ sym (ap (λ a. a.left.nodes) done);
@@ -99,9 +99,9 @@ loop-run-preserved g c =
     let mem = memory l.nodes l.marks l.plan l.rows in
     let off : v.problem.target v.current ≡ false = sym c.loop-run-test.ensures in
     let free : length l.rows - l.made ≡ suc (length l.rows - (l.made + 1)) = omega arith in
-    let row = c.in-ok-row.row in
-    let made = told_given _ _ row (sym c.attempt.ensures.reply ∙ c.in-ok-row.was) in
-    let stands = c.attempt.ensures.run row c.in-ok-row.was in
+    let row = c.in_ok-row.row in
+    let made = told_given _ _ row (sym c.attempt.ensures.reply ∙ c.in_ok-row.was) in
+    let stands = c.attempt.ensures.run row c.in_ok-row.was in
     let written = row_written N l.width v mem l.made row l.invariant.1 made.1 made.0 in
     let j = c.in-Some.next in
     let next : next_width (found_at N l.width v mem) l.width ≡ Some j = ap (λ r. next_width r.found l.width) (sym made.1) ∙ sym c.in-Some.ensures in
@@ -126,7 +126,7 @@ returns g c =
     let on : v.problem.target v.current ≡ true = sym c.loop-run-test.ensures in
     let done : solved P c.args.sketch before ≡ answer (Ok (report v AtTarget)) mem =
     start ∙ l.invariant.0 ∙ ends_at_target c.atoms-atoms.result l.width v mem (length l.rows - l.made) on in
-    let ends = ap₂ (λ a b. Ok (record { rows = a; steps = b; ending = AtTarget })) (sym l.invariant.1) c.plan-length-2.ensures in
+    let ends = ap₂ (λ a b. Ok (record { rows = a; steps = b; ending = AtTarget })) (sym l.invariant.1) c.plan_length-2.ensures in
     record {
       reply = ends ∙ sym (ap (λ a. a.reply) done);
       nodes = sym (ap (λ a. a.left.nodes) done);

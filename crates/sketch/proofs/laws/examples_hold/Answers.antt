@@ -1,0 +1,5 @@
+use Rattle.sketch.proofs.Worked.{examples}
+use Rattle.sketch.proofs.laws.examples_hold.Goals as goal
+
+pub returns : goal.returns
+returns c = examples
