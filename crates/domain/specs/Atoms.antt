@@ -1,5 +1,5 @@
 -- Sets of atoms 0 to 255, and what the operations on them mean. Assumes nothing.
-use Rattle.std.specs.Prelude.{◌≡◌, ℕ, zero, suc, ◌/◌, ◌%◌, ◌^◌, ◌<◌, ◌≤◌, Bool, true, false, ◌&&◌, List, [], ◌∷◌, ◌++◌, set, filter, bit_and, bit_or, nat_lt, slice_index, slice_set}
+use Rattle.std.specs.Prelude.{◌≡◌, ℕ, zero, suc, ◌/◌, ◌%◌, ◌^◌, ◌<◌, ◌≤◌, Bool, true, false, ◌&&◌, List, [], ◌∷◌, ◌++◌, filter, bit_and, bit_or, nat_lt, slice_index, slice_set}
 use Rattle.domain.specs.Words.{bit, zipped, lacking, lowest}
 use Rattle.domain.specs.declared.atoms.AtomSet.{AtomSet}
 

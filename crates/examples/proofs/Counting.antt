@@ -1,10 +1,9 @@
 -- Every way of the counter has as many actions as the number that it leads to, so each is shortest. Assumes nothing.
-use Rattle.std.proofs.Common.{◌≡◌, ℕ, suc, ◌+◌, ◌<◌, ◌≤◌, Bool, true, false, cond, ◌&&◌, eqb, ltb, ◌⊎◌, List, [], ◌∷◌, ◌++◌, length, sym, refl, ap, ◌∙◌, subst, inl, inr, ⊎_elim, arith}
+use Rattle.std.proofs.Common.{◌≡◌, ℕ, ◌+◌, ◌<◌, ◌≤◌, true, eqb, ltb, ◌⊎◌, List, [], ◌∷◌, ◌++◌, length, sym, refl, ◌∙◌, subst, inl, inr, ⊎_elim, arith}
 use Rattle.std.proofs.lemmas.Bool.{cond-true, and_parts, and_from, eqb-true, eq-eqb, ltb-true, lt-ltb, cases_lt}
-use Rattle.std.proofs.lemmas.List.{length_push}
-use Rattle.planner.specs.Width.{Leads, Least, Admits, Lengthens}
+use Rattle.planner.specs.Width.{Leads, Least}
 use Rattle.planner.proofs.Chains.{leads_more}
-use Rattle.examples.specs.Counter.{counter, counting, CounterAdmissible}
+use Rattle.examples.specs.Counter.{counter, CounterAdmissible}
 
 -- a way from s ends as far above s as it has actions, and not above 3
 counted : (xs : List ℕ) (s t : ℕ) → s ≤ 3 → Leads counter s xs t → (t ≡ s + length xs) × (t ≤ 3)

@@ -1,5 +1,5 @@
 -- A problem and a measure with an admissible set of keys: a counter that is raised from 0 to 3. Assumes nothing.
-use Rattle.std.specs.Prelude.{ℕ, ◌+◌, Bool, true, cond, ◌&&◌, List, [], ◌∷◌, ◌==◌, nat_lt}
+use Rattle.std.specs.Prelude.{ℕ, ◌+◌, true, cond, ◌&&◌, [], ◌∷◌, ◌==◌, nat_lt}
 use Rattle.domain.specs.Model.{Meaning}
 use Rattle.planner.specs.Search.{Task}
 use Rattle.planner.specs.Width.{Admissible}

@@ -1,5 +1,5 @@
 -- Worked examples, each settled from the definitions that the contracts of the library call. Assumes nothing.
-use Rattle.std.specs.Prelude.{◌≡◌, ℕ, ◌+◌, List, [], ◌∷◌, map, length, replicate, Some}
+use Rattle.std.specs.Prelude.{◌≡◌, ℕ, List, [], ◌∷◌, length, replicate, Some}
 use Rattle.domain.specs.Atoms.{none, with_atom}
 use Rattle.domain.specs.Model.{Meaning}
 use Rattle.domain.specs.Strips.{problem}
@@ -11,7 +11,6 @@ use Rattle.planner.specs.Search.{Snapshot, node, advanced, begun}
 use Rattle.planner.specs.Way.{actions_of}
 use Rattle.planner.specs.Whole.{reply_of}
 use Rattle.planner.specs.Widths.{tuple_task}
-use Rattle.planner.specs.declared.node.Node.{Node}
 use Rattle.planner.specs.declared.node.Outcome.TheVariants.{Found, Exhausted, Open}
 use Rattle.planner.specs.declared.node.Reply.{Reply}
 use Rattle.planner.specs.declared.node.Way.{Way}

@@ -1,5 +1,5 @@
 -- Tables of marks: one byte a key, zero for unmarked. Assumes nothing.
-use Rattle.std.specs.Prelude.{ℕ, Bool, true, false, ◌||◌, List, [], ◌∷◌, ◌==◌, slice_index_or, slice_set}
+use Rattle.std.specs.Prelude.{ℕ, Bool, false, ◌||◌, List, [], ◌∷◌, ◌==◌, slice_index_or, slice_set}
 
 -- key k is unmarked; a key past the table counts as marked
 abbrev pub unmarked : List ℕ → ℕ → Bool

@@ -5,7 +5,7 @@ use Rattle.std.proofs.Math.Arith.{digits_div, digits_mod}
 use Rattle.std.proofs.lemmas.List.{drop_more}
 use Rattle.std.proofs.lemmas.Bool.{lt-ltb, le-ltb, cases_lt, cond-true, cond-false}
 use Rattle.domain.specs.declared.refusal.Refusal.TheVariants.{ManyKeys}
-use Rattle.sketch.specs.Feature.{value_of, top_of, values_of}
+use Rattle.sketch.specs.Feature.{value_of, values_of}
 use Rattle.sketch.specs.declared.feature.Feature.{Feature}
 use Rattle.sketch.proofs.Values.{value_le_top}
 use Rattle.novelty.specs.Values.{base_of, value_key, value_count, bounded_count, values_fault, KeyForValues}

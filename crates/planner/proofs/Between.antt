@@ -1,10 +1,10 @@
 -- What holds between two advances of a search that alone writes its memory: beginning establishes it and every
 -- advance keeps it. Assumes nothing.
-use Rattle.std.proofs.Common.{◌≡◌, ℕ, zero, suc, ◌+◌, ◌<◌, ◌≤◌, Bool, true, false, cond, not, ◌&&◌, ltb, ◌⊎◌, List, ◌++◌, length, drop, set, replicate, is_some, Some, None, Option, sym, refl, ap, ◌∙◌, subst, inl, inr, ⊎_elim, arith}
+use Rattle.std.proofs.Common.{◌≡◌, ℕ, zero, suc, ◌+◌, ◌<◌, ◌≤◌, true, false, not, ltb, ◌⊎◌, List, length, is_some, Some, None, sym, refl, ap, ◌∙◌, subst, inl, inr, ⊎_elim, arith}
 use Rattle.std.proofs.lemmas.List.{length-set, get_or-set_same}
 use Rattle.std.proofs.lemmas.Bool.{both_ways, cases_eq, cases_lt, cond_both, and_parts, ltb-true, not-true, not_from_false}
-use Rattle.novelty.specs.Marks.{unmarked, marked}
-use Rattle.planner.specs.Search.{Task, Snapshot, node, link, keys_of, tried_from, expand_next, one_more_expanded, goes_on, advanced, begun}
+use Rattle.novelty.specs.Marks.{unmarked}
+use Rattle.planner.specs.Search.{Task, Snapshot, node, link, keys_of, expand_next, one_more_expanded, goes_on, advanced, begun}
 use Rattle.planner.specs.Width.{HasKey}
 use Rattle.planner.specs.declared.node.Node.{Node}
 use Rattle.planner.proofs.Chains.{among_below}

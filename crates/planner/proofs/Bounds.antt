@@ -1,5 +1,5 @@
 -- The numbers of a search keep to the count of keys, whatever the memory holds. Assumes nothing.
-use Rattle.std.proofs.Common.{◌≡◌, ℕ, zero, suc, ◌<◌, ◌≤◌, Bool, true, not, ltb, is_some, Some, None, Option, sym, refl, subst, arith}
+use Rattle.std.proofs.Common.{◌≡◌, ℕ, zero, suc, ◌<◌, ◌≤◌, true, not, ltb, is_some, Some, None, Option, sym, refl, subst, arith}
 use Rattle.std.proofs.lemmas.Bool.{and_parts, cond_both, ltb-true, lt-ltb}
 use Rattle.planner.specs.Search.{Task, Snapshot, tried_from, expand_next, goes_on, advanced, state_at}
 use Rattle.planner.specs.Whole.{Within, linked}

@@ -1,12 +1,12 @@
 -- Chains of least ways to the keys of an admissible set, by any weight of ways that every further action raises.
 -- Nothing here knows a search's memory: what is kept is given by its facts. Assumes nothing.
-use Rattle.std.proofs.Common.{◌≡◌, ℕ, zero, suc, ◌+◌, ◌<◌, ◌≤◌, Bool, true, false, ◌||◌, eqb, ◌⊎◌, List, [], ◌∷◌, ◌++◌, length, sym, refl, ap, ◌∙◌, subst, inl, inr, ⊎_elim, not-suc-le-zero, arith}
+use Rattle.std.proofs.Common.{◌≡◌, ℕ, zero, suc, ◌+◌, ◌<◌, ◌≤◌, Bool, true, false, ◌||◌, eqb, ◌⊎◌, List, [], ◌∷◌, ◌++◌, sym, refl, ap, ◌∙◌, subst, inl, inr, ⊎_elim, not-suc-le-zero, arith}
 use Rattle.std.specs.List.{AllByRecursion as All}
 use Rattle.std.proofs.lemmas.Bool.{both_ways, cases_Bool, cases_eq, eqb-true, eq-eqb, or_cases, or_left, or_right}
 use Rattle.domain.specs.Model.{Meaning}
 use Rattle.planner.specs.Search.{Task, keys_of}
 use Rattle.planner.proofs.Tally.{tally, tally_grows, tally_room}
-use Rattle.planner.specs.Width.{Among, Leads, Least, HasKey, Target, Lengthens, Admits}
+use Rattle.planner.specs.Width.{Among, Leads, Least, HasKey, Target, Admits}
 
 -- a weight of ways: the empty way is lightest, and every further action raises it
 pub record Weighs (weight : List ℕ → ℕ) : Type 0 where

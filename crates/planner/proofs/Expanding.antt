@@ -1,5 +1,5 @@
 -- Trying actions, expanding and advancing keep what the memory says. Assumes nothing.
-use Rattle.std.proofs.Common.{◌≡◌, ℕ, zero, suc, ◌+◌, ◌<◌, ◌≤◌, Bool, true, false, cond, not, ◌&&◌, ltb, ◌⊎◌, List, length, is_some, Some, None, Option, sym, refl, ap, ◌∙◌, subst, inl, inr, ⊎_elim, arith}
+use Rattle.std.proofs.Common.{◌≡◌, ℕ, zero, suc, ◌+◌, ◌<◌, ◌≤◌, Bool, true, false, cond, ◌&&◌, ltb, ◌⊎◌, List, length, is_some, Some, None, sym, refl, ap, ◌∙◌, subst, inl, inr, ⊎_elim, arith}
 use Rattle.std.specs.List.{AllByRecursion as All}
 use Rattle.std.proofs.lemmas.Bool.{both_ways, cases_eq, cases_Bool, cond_both, cond-true, cond-false, and_parts, and_cases, ltb-true, lt-ltb}
 use Rattle.novelty.specs.Marks.{novel}
@@ -7,7 +7,7 @@ use Rattle.planner.specs.Search.{Task, Snapshot, keys_of, keep, meet, arrive, tr
 use Rattle.planner.specs.Width.{HasKey}
 use Rattle.planner.specs.declared.node.Node.{Node}
 use Rattle.planner.proofs.Chains.{among_below}
-use Rattle.planner.proofs.Faithful.{depth, state, Core, Done, near, place_free}
+use Rattle.planner.proofs.Faithful.{state, Core, Done, near, place_free}
 use Rattle.planner.proofs.Keeping.{grown, state_old, state_new, depth_old, depth_new, done_kept, keep_core}
 use Rattle.planner.proofs.Marking.{novel_some, novel_none}
 

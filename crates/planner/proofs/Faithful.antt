@@ -1,5 +1,5 @@
 -- What the memory of a search says as long as the search alone writes it. Assumes nothing.
-use Rattle.std.proofs.Common.{◌≡◌, ℕ, zero, suc, ◌+◌, ◌<◌, ◌≤◌, Bool, true, false, not, List, length, sym, refl, subst, not-suc-le-zero, arith}
+use Rattle.std.proofs.Common.{◌≡◌, ℕ, zero, suc, ◌<◌, ◌≤◌, true, false, not, List, length, sym, refl, subst, not-suc-le-zero, arith}
 use Rattle.std.proofs.lemmas.Bool.{not_from_true}
 use Rattle.novelty.specs.Marks.{unmarked}
 use Rattle.planner.specs.Search.{Task, state_at}

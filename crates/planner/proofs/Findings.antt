@@ -1,10 +1,10 @@
 -- What a search finds out, from what holds between its advances. Assumes nothing.
-use Rattle.std.proofs.Common.{◌≡◌, ℕ, zero, suc, ◌+◌, ◌<◌, ◌≤◌, Bool, true, false, cond, ◌&&◌, eqb, ltb, List, [], ◌∷◌, ◌++◌, length, Some, None, sym, refl, ap, ◌∙◌, subst, ⊎_elim, not-suc-le-zero, arith}
+use Rattle.std.proofs.Common.{◌≡◌, ℕ, zero, suc, ◌<◌, ◌≤◌, Bool, true, false, cond, ltb, List, [], ◌∷◌, length, None, sym, refl, ap, ◌∙◌, subst, ⊎_elim, not-suc-le-zero, arith}
 use Rattle.std.proofs.lemmas.List.{length_push}
-use Rattle.std.proofs.lemmas.Bool.{cases_lt, cases_Bool, lt-ltb, ltb-true, ltb-false, eq-eqb, le-ltb, cond-false, and_from, or_from}
+use Rattle.std.proofs.lemmas.Bool.{cases_lt, lt-ltb, ltb-true, ltb-false, eq-eqb, le-ltb, cond-false, and_from, or_from}
 use Rattle.domain.specs.Model.{Meaning}
 use Rattle.planner.specs.Findings.{Findings, WholeFindings}
-use Rattle.planner.specs.Search.{Task, Snapshot, link, keys_of, goes_on, tried_from, advanced, begun}
+use Rattle.planner.specs.Search.{Task, Snapshot, link, keys_of, goes_on, tried_from, begun}
 use Rattle.planner.specs.Way.{parent_of, way_to, root, actions_of, runs_to_target, way_holds}
 use Rattle.planner.specs.Whole.{way_by, outcome_of, reply_of, Within, search_fault, after, at_end}
 use Rattle.planner.specs.Width.{Leads, Target, Admissible}
@@ -15,8 +15,8 @@ use Rattle.planner.specs.declared.node.Outcome.TheVariants.{Found, Exhausted, Op
 use Rattle.novelty.specs.Marks.{novel}
 use Rattle.planner.proofs.Between.{Unmet, Met, Between, begins_expanding, advance_keeps, begin_holds}
 use Rattle.planner.proofs.Chains.{Weighs, Recorded, none_admissible, target_heavier, leads_more}
-use Rattle.planner.proofs.Expanding.{Fair, Going, Stopped, novel_place, try_all}
-use Rattle.planner.proofs.Faithful.{depth, state, Core, Done, leads_to_kept, deeper, kept_below_count}
+use Rattle.planner.proofs.Expanding.{Fair, novel_place, try_all}
+use Rattle.planner.proofs.Faithful.{state, Core, Done, leads_to_kept, deeper, kept_below_count}
 use Rattle.planner.proofs.Links.{root_lower}
 use Rattle.planner.proofs.Steps.{advanced_used}
 

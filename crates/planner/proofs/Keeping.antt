@@ -1,12 +1,12 @@
 -- Keeping a novel state keeps what the memory says. Assumes nothing.
-use Rattle.std.proofs.Common.{◌≡◌, ℕ, zero, suc, ◌+◌, ◌<◌, ◌≤◌, Bool, true, false, not, ◌≢◌, ◌⊎◌, List, map, length, get_or, set, sym, ap, ◌∙◌, subst, inl, inr, ⊎_elim, arith}
+use Rattle.std.proofs.Common.{◌≡◌, ℕ, suc, ◌+◌, ◌<◌, ◌≤◌, true, false, not, ◌≢◌, List, map, length, get_or, set, sym, ap, ◌∙◌, subst, ⊎_elim, arith}
 use mathlib.Core.Path.{subst₃}
 use Rattle.std.specs.List.{AllByRecursion as All}
 use Rattle.std.proofs.lemmas.List.{map-set, get_or-set_same, get_or-set_other, length-map, length-set}
 use Rattle.std.proofs.lemmas.Bool.{cases_eq, not_from_true, not_from_false, not-true}
 use Rattle.novelty.specs.Marks.{unmarked, novel, marked}
 use Rattle.planner.specs.Search.{Task, node, keys_of}
-use Rattle.planner.specs.Way.{parent_of, action_of, way_to}
+use Rattle.planner.specs.Way.{parent_of, action_of}
 use Rattle.planner.specs.Width.{HasKey}
 use Rattle.planner.specs.declared.node.Node.{Node}
 use Rattle.planner.proofs.Chains.{among_below}

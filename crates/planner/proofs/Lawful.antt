@@ -1,8 +1,8 @@
 -- The laws of a model and of a measure, as a search uses them. Assumes nothing.
-use Rattle.std.proofs.Common.{◌≡◌, ℕ, ◌<◌, ◌≤◌, false, List, length}
+use Rattle.std.proofs.Common.{ℕ, ◌<◌, ◌≤◌, List, length}
 use Rattle.std.specs.List.{AllByRecursion as All}
 use Rattle.domain.specs.Model.{Meaning, Lawful, Rising}
-use Rattle.planner.specs.Search.{Task, task}
+use Rattle.planner.specs.Search.{task}
 use Rattle.planner.proofs.Expanding.{Fair}
 use Rattle.planner.proofs.Steps.{some_count}
 

@@ -1,6 +1,6 @@
 -- One search, case by case: what each part of it replies and leaves, for every content of the memory.
 -- Assumes nothing.
-use Rattle.std.specs.Prelude.{ℕ, zero, suc, ◌+◌, Bool, cond, not, ◌&&◌, List, ◌++◌, drop, set, replicate, is_some, Some, None, Option, nat_lt, slice_index_or, slice_set}
+use Rattle.std.specs.Prelude.{ℕ, zero, suc, ◌+◌, Bool, cond, not, ◌&&◌, List, ◌++◌, drop, replicate, is_some, Some, None, Option, nat_lt, slice_index_or, slice_set}
 use Rattle.domain.specs.Model.{Meaning}
 use Rattle.novelty.specs.Marks.{novel, marked}
 use Rattle.planner.specs.declared.node.Node.{Node}

@@ -1,17 +1,15 @@
 -- One whole search: what it replies and leaves, and what that says about the problem. Assumes nothing.
-use Rattle.std.specs.Prelude.{◌≡◌, ℕ, ◌+◌, ◌<◌, ◌≤◌, Bool, true, cond, ◌||◌, List, length, Some, None, Ok, Err, Option, Result, nat_lt}
+use Rattle.std.specs.Prelude.{ℕ, ◌+◌, ◌<◌, Bool, true, cond, ◌||◌, List, length, Some, None, Ok, Err, Option, Result, nat_lt}
 use Rattle.domain.specs.declared.refusal.Refusal.{Refusal}
 use Rattle.domain.specs.declared.refusal.Refusal.TheVariants.{AtTarget, FewPlaces}
-use Rattle.novelty.specs.Marks.{novel}
 use Rattle.planner.specs.declared.node.Node.{Node}
 use Rattle.planner.specs.declared.node.Link.{Link}
 use Rattle.planner.specs.declared.node.Way.{Way}
 use Rattle.planner.specs.declared.node.Outcome.{Outcome}
 use Rattle.planner.specs.declared.node.Outcome.TheVariants.{Found, Exhausted, Open}
 use Rattle.planner.specs.declared.node.Reply.{Reply}
-use Rattle.planner.specs.Search.{Task, Snapshot, keys_of, advanced, begun}
-use Rattle.planner.specs.Way.{way_to, actions_of, way_holds}
-use Rattle.planner.specs.Width.{Leads, Target, Admissible}
+use Rattle.planner.specs.Search.{Task, Snapshot, advanced, begun}
+use Rattle.planner.specs.Way.{way_to}
 
 -- the way that ends with a link: its length counts the links back, and the last action
 abbrev pub way_by : {S : Type 0} → List (Node S) → Link → Way

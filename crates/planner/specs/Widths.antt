@@ -12,7 +12,7 @@ use Rattle.planner.specs.declared.widths.Attempts.{Attempts}
 use Rattle.planner.specs.Findings.{WholeFindings}
 use Rattle.planner.specs.Search.{Task, task}
 use Rattle.planner.specs.Way.{actions_of}
-use Rattle.planner.specs.Whole.{at_end, reply_of, search_fault, search_reply, search_nodes, search_marks}
+use Rattle.planner.specs.Whole.{at_end, reply_of, search_fault}
 
 -- a reply for a search that was not made
 abbrev pub unmade : Reply

@@ -1,24 +1,22 @@
 -- A good text is the one that is written from its rows. Assumes nothing.
-use Rattle.std.proofs.Common.{◌≡◌, ℕ, ◌+◌, ◌^◌, ◌<◌, ◌≤◌, Bool, true, false, cond, eqb, ◌⊎◌, List, [], ◌∷◌, ◌++◌, map, length, Some, None, Ok, Err, Option, Result, sym, refl, ap, ◌∙◌, subst, inl, inr, ⊎_elim, arith}
+use Rattle.std.proofs.Common.{◌≡◌, ℕ, ◌+◌, ◌<◌, ◌≤◌, Bool, true, false, cond, eqb, ◌⊎◌, List, [], ◌∷◌, ◌++◌, map, length, Ok, Err, Result, sym, refl, ap, ◌∙◌, subst, inl, inr, ⊎_elim, arith}
 use Rattle.std.specs.List.{flat_map}
 use Rattle.std.specs.Str.{bytes_eq}
 use Rattle.std.proofs.lemmas.Slice.Eq.{bytes_eq-Decides}
 use Rattle.std.proofs.lemmas.Bool.{eqb-true}
-use Rattle.domain.specs.declared.strips.Action.{Action}
 use Rattle.problem.specs.Form.{and_then, good_by}
 use Rattle.problem.specs.Lines.{fronted, cut, lines}
 use Rattle.problem.specs.Problem.{Parsed, parsed, of_problem, accepted, most_actions, blank_actions, text_problem}
-use Rattle.problem.specs.Reader.{Step, names_of, after_table, wanting, moved, start_of, opened, closed, valued, inside, step, step_by, Sound}
+use Rattle.problem.specs.Reader.{Step, names_of, after_table, start_of, closed, valued, step, step_by, Sound}
 use Rattle.problem.specs.Text.{Reading, placed, ended, read_lines, read_text}
-use Rattle.problem.specs.Written.{Sheet, numbers_text, lettered_text, twice_text, body, sheet_lines, written, WhollyAccounted}
+use Rattle.problem.specs.Written.{Sheet, numbers_text, lettered_text, twice_text, body, sheet_lines, WhollyAccounted}
 use Rattle.problem.specs.declared.fault.LineFault.{LineFault}
-use Rattle.problem.specs.declared.fault.ProblemFault.{ProblemFault}
 use Rattle.problem.specs.declared.fault.Table.{Table}
 use Rattle.problem.specs.declared.fault.Table.TheVariants.{Atoms, Actions, Features, Rules}
 use Rattle.problem.specs.declared.reader.Reader.{Reader}
 use Rattle.problem.specs.declared.reader.Wanted.{Wanted}
 use Rattle.problem.specs.declared.reader.Wanted.TheVariants.{TheNames, Values, Nothing}
-use Rattle.problem.proofs.Inverse.{then_ok, cond_ok, cond_on}
+use Rattle.problem.proofs.Inverse.{cond_ok, cond_on}
 use Rattle.problem.proofs.Sounds.{atom_step, action_step, feature_step, rule_step, from_ok, sound_step}
 use Rattle.problem.proofs.Spelled.{numbers_spelled, lettered_spelled, twice_spelled}
 

@@ -1,6 +1,6 @@
 -- A number past the machine's largest is past every limit, so that a line means the same with the largest in its place.
 -- Assumes nothing.
-use Rattle.std.proofs.Common.{◌≡◌, ℕ, ◌-◌, ◌^◌, ◌<◌, ◌≤◌, Bool, true, false, cond, not, ◌&&◌, eqb, ltb, List, get_or, Some, None, Ok, Err, Option, Result, sym, refl, ap, ◌∙◌, ⊎_elim, arith}
+use Rattle.std.proofs.Common.{◌≡◌, ℕ, ◌≤◌, false, cond, ◌&&◌, eqb, ltb, Some, None, Ok, Err, Option, Result, sym, refl, ap, ◌∙◌, ⊎_elim, arith}
 use Rattle.std.proofs.lemmas.Bool.{cases_lt, le-ltb, ne_eqb}
 use Rattle.sketch.specs.Kind.{kind_named}
 use Rattle.sketch.specs.declared.feature.Kind.{Kind}
@@ -12,7 +12,7 @@ use Rattle.problem.specs.Rows.{truth, meant, checked_atom, checked_action, secon
 use Rattle.problem.specs.Tables.{both_named}
 use Rattle.problem.specs.declared.fault.LineFault.{LineFault}
 use Rattle.problem.specs.declared.fault.LineFault.TheVariants.{AtomOrder, SecondKind, NamedTwice, Truth, NoSuchAtom, NoSuchFeature, Full}
-use Rattle.problem.specs.declared.fault.Table.TheVariants.{Atoms, Actions, Features, Rules}
+use Rattle.problem.specs.declared.fault.Table.TheVariants.{Actions, Features, Rules}
 use Rattle.problem.specs.declared.tables.FeatureTable.{FeatureTable}
 use Rattle.problem.specs.declared.tables.RuleRow.{RuleRow}
 use Rattle.problem.specs.declared.tables.RuleTable.{RuleTable}

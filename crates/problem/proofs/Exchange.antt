@@ -1,14 +1,13 @@
 -- The order of the lines inside a table does not matter. Assumes nothing.
-use Rattle.std.proofs.Common.{◌≡◌, ℕ, ◌+◌, ◌<◌, ◌≤◌, max, List, [], ◌∷◌, ◌++◌, length, Some, None, Ok, Err, Option, Result, sym, refl, ap, ◌∙◌, subst, arith}
+use Rattle.std.proofs.Common.{◌≡◌, ℕ, ◌+◌, ◌<◌, ◌≤◌, List, [], ◌∷◌, ◌++◌, length, Some, None, Ok, Err, Option, Result, sym, refl, ap, ◌∙◌, subst, arith}
 use Rattle.std.specs.Str.{bytes_eq}
 use Rattle.domain.specs.declared.strips.Action.{Action}
 use Rattle.problem.specs.Form.{and_then, good_by}
-use Rattle.problem.specs.Lines.{lines}
 use Rattle.problem.specs.Order.{Free, behind, behind_all, Reordered, OrderFree}
 use Rattle.problem.specs.Order.Reordered.{same, exchanged}
-use Rattle.problem.specs.Problem.{Parsed, parsed, of_problem, accepted, most_actions, blank_actions, text_problem}
+use Rattle.problem.specs.Problem.{parsed, of_problem, accepted, most_actions, blank_actions, text_problem}
 use Rattle.problem.specs.Reader.{Step, names_of, start_of, with_actions, with_features, with_rules, valued, step, step_by, Sound}
-use Rattle.problem.specs.Tables.{raised_to, action_added, other_kind, both_named, feature_added, rule_added}
+use Rattle.problem.specs.Tables.{raised_to, other_kind, both_named, feature_added, rule_added}
 use Rattle.problem.specs.Text.{Reading, placed, read_lines, read_text}
 use Rattle.problem.specs.declared.fault.LineFault.{LineFault}
 use Rattle.problem.specs.declared.fault.Table.{Table}

@@ -1,5 +1,5 @@
 -- The first faulty line decides. Assumes nothing.
-use Rattle.std.proofs.Common.{◌≡◌, ℕ, ◌+◌, ◌<◌, ◌≤◌, Bool, true, false, cond, eqb, List, [], ◌∷◌, ◌++◌, length, Some, None, Ok, Err, Option, Result, sym, refl, ap, ◌∙◌, subst, arith}
+use Rattle.std.proofs.Common.{◌≡◌, ℕ, ◌+◌, ◌<◌, ◌≤◌, Bool, true, false, cond, eqb, List, [], ◌∷◌, ◌++◌, length, Some, None, Ok, Err, Option, Result, sym, refl, ap, ◌∙◌, arith}
 use Rattle.domain.specs.declared.refusal.Refusal.{Refusal}
 use Rattle.sketch.specs.Fault.{sketch_fault}
 use Rattle.problem.specs.Form.{and_then, good_by}
@@ -10,8 +10,7 @@ use Rattle.problem.specs.Reader.{Step, start_of, step}
 use Rattle.problem.specs.Text.{Reading, placed, ended, read_lines, read_text}
 use Rattle.problem.specs.declared.fault.LineFault.{LineFault}
 use Rattle.problem.specs.declared.fault.LineFault.TheVariants.{Missing}
-use Rattle.problem.specs.declared.fault.ProblemFault.{ProblemFault}
-use Rattle.problem.specs.declared.fault.ProblemFault.TheVariants.{Line, Sketch}
+use Rattle.problem.specs.declared.fault.ProblemFault.TheVariants.{Line}
 use Rattle.problem.specs.declared.reader.Wanted.{Wanted}
 use Rattle.problem.specs.declared.reader.Wanted.TheVariants.{TheNames, Values, Nothing}
 use Rattle.problem.proofs.Named.{At, at_step}

@@ -3,7 +3,6 @@ use Rattle.std.proofs.Common.{◌≡◌, ℕ, List, Ok}
 use Rattle.problem.specs.Form.{numbers, lettered, twice_lettered}
 use Rattle.problem.specs.Lines.{fields, three, four}
 use Rattle.problem.specs.Numeral.{numeral, letter}
-use Rattle.problem.specs.declared.fault.LineFault.{LineFault}
 
 pub numbers_good : (n : ℕ) (bs p q r : List ℕ) (u v w : ℕ) → three n (fields bs) ≡ Ok (p, q, r)
     → numeral n 1 p ≡ Ok u → numeral n 2 q ≡ Ok v → numeral n 3 r ≡ Ok w → numbers n bs ≡ Ok (u, v, w)

@@ -1,16 +1,12 @@
 -- What a good line says of its columns. Assumes nothing.
-use Rattle.std.proofs.Common.{◌≡◌, ℕ, ◌+◌, ◌<◌, ◌≤◌, max, Bool, true, false, cond, eqb, ltb, List, [], ◌∷◌, Some, None, Ok, Err, Option, Result, sym, refl, ap, ◌∙◌, arith}
+use Rattle.std.proofs.Common.{◌≡◌, ℕ, ◌<◌, Bool, true, false, cond, eqb, ltb, Some, None, Ok, Err, Option, Result, sym, refl, ap, ◌∙◌, arith}
 use Rattle.std.proofs.lemmas.Bool.{ltb-true, eqb-true}
 use Rattle.sketch.specs.Kind.{kind_named}
-use Rattle.sketch.specs.declared.feature.Kind.{Kind}
-use Rattle.sketch.specs.declared.rule.Entry.{Entry}
 use Rattle.problem.specs.Form.{and_then}
 use Rattle.problem.specs.Role.{role_named}
 use Rattle.problem.specs.Rows.{truth, meant, checked_atom, checked_action, second_kind, checked_feature, checked_entry, checked_rule}
 use Rattle.problem.specs.Tables.{other_kind, both_named}
-use Rattle.problem.specs.declared.fault.LineFault.{LineFault}
 use Rattle.problem.specs.declared.fault.LineFault.TheVariants.{Truth}
-use Rattle.problem.specs.declared.role.Role.{Role}
 use Rattle.problem.specs.declared.tables.ActionRow.{ActionRow}
 use Rattle.problem.specs.declared.tables.AtomRow.{AtomRow}
 use Rattle.problem.specs.declared.tables.FeatureRow.{FeatureRow}

@@ -1,10 +1,10 @@
 -- What one line does, by what is wanted. Assumes nothing.
-use Rattle.std.proofs.Common.{◌≡◌, ℕ, ◌<◌, List, [], ◌∷◌, length, Option, Result, sym, refl, ap, ◌∙◌, subst, arith}
-use Rattle.problem.specs.Reader.{Step, opened, closed, valued, inside, step, step_by, Moves}
+use Rattle.std.proofs.Common.{◌≡◌, ℕ, ◌<◌, List, [], ◌∷◌, length, Option, Result, sym, ap, subst, arith}
+use Rattle.problem.specs.Reader.{Step, opened, closed, valued, step, step_by, Moves}
 use Rattle.problem.specs.declared.fault.LineFault.{LineFault}
 use Rattle.problem.specs.declared.fault.Table.{Table}
 use Rattle.problem.specs.declared.reader.Reader.{Reader}
-use Rattle.problem.specs.declared.reader.Wanted.TheVariants.{TheNames, Values, Nothing}
+use Rattle.problem.specs.declared.reader.Wanted.TheVariants.{TheNames, Values}
 use Rattle.problem.specs.declared.tables.ActionRow.{ActionRow}
 
 pub opening : (s : Reader) (table : Table) (n : ℕ) (bs : List ℕ) → s.wanted ≡ TheNames table → opened s table n bs ≡ step s n bs

@@ -7,7 +7,7 @@ use Rattle.problem.specs.Form.{and_then, of_line, number_at, numbers, lettered, 
 use Rattle.problem.specs.Laws.{line_of}
 use Rattle.problem.specs.Lines.{fields, three, four, preceded}
 use Rattle.problem.specs.Numeral.{numeral, judged, flaw_of, letter}
-use Rattle.problem.specs.Reader.{names_of, opened, closed, valued, inside, step, step_by}
+use Rattle.problem.specs.Reader.{names_of, closed, valued, inside, step, step_by}
 use Rattle.problem.specs.Role.{role_named}
 use Rattle.problem.specs.Rows.{truth, meant, checked_entry, second_kind, atom_row, action_row, feature_row, rule_row}
 use Rattle.problem.specs.Tables.{both_named}

@@ -1,5 +1,5 @@
 -- Reading goes on line by line. Assumes nothing.
-use Rattle.std.proofs.Common.{◌≡◌, ℕ, ◌+◌, List, [], ◌∷◌, Ok, Err, Option, Result, refl, ap, ◌∙◌, subst}
+use Rattle.std.proofs.Common.{◌≡◌, ℕ, ◌+◌, List, [], ◌∷◌, Ok, Err, Option, Result, ap, ◌∙◌, subst}
 use Rattle.domain.specs.declared.strips.Action.{Action}
 use Rattle.problem.specs.Form.{and_then, good_by}
 use Rattle.problem.specs.Lines.{cut, lines}

@@ -7,7 +7,7 @@ use Rattle.sketch.specs.Fault.{sketch_fault}
 use Rattle.sketch.specs.Sketch.{features_of, rules_of}
 use Rattle.sketch.specs.declared.sketch.Sketch.{Sketch as Accepted}
 use Rattle.problem.specs.Form.{and_then, good_by}
-use Rattle.problem.specs.Problem.{Parsed, parsed, features_read, rules_read, of_problem, sieved, accepted, most_actions, blank_actions, text_problem, Read}
+use Rattle.problem.specs.Problem.{parsed, features_read, rules_read, of_problem, sieved, accepted, most_actions, blank_actions, text_problem, Read}
 use Rattle.problem.specs.Text.{Reading, read_text}
 use Rattle.problem.specs.declared.fault.LineFault.{LineFault}
 use Rattle.problem.specs.declared.fault.ProblemFault.TheVariants.{Line, Sketch}

@@ -1,5 +1,5 @@
 -- A good line is good at any other place where its table allows it. Assumes nothing.
-use Rattle.std.proofs.Common.{◌≡◌, ℕ, ◌<◌, Bool, true, false, cond, ltb, List, [], ◌∷◌, Some, None, Ok, Err, Option, Result, sym, refl, ap, ◌∙◌, arith}
+use Rattle.std.proofs.Common.{◌≡◌, ℕ, false, cond, List, [], ◌∷◌, Some, None, Ok, Err, Option, Result, sym, refl, ap, ◌∙◌, arith}
 use Rattle.std.proofs.lemmas.Bool.{lt-ltb}
 use Rattle.sketch.specs.Entry.{condition_named, effect_named}
 use Rattle.sketch.specs.Kind.{kind_named}
@@ -8,7 +8,7 @@ use Rattle.sketch.specs.declared.rule.Entry.{Entry}
 use Rattle.problem.specs.Form.{and_then, of_line, number_at, lettered, twice_lettered}
 use Rattle.problem.specs.Lines.{fields, three, four, preceded}
 use Rattle.problem.specs.Numeral.{digits_value, flaw_of, judged, numeral, letter}
-use Rattle.problem.specs.Reader.{Step, valued, after_action, after_feature, after_rule}
+use Rattle.problem.specs.Reader.{valued, after_action, after_feature, after_rule}
 use Rattle.problem.specs.Rows.{meant, checked_action, second_kind, checked_feature, checked_entry, checked_rule, action_row, feature_row, rule_row}
 use Rattle.problem.specs.Tables.{other_kind, both_named}
 use Rattle.problem.specs.declared.fault.LineFault.{LineFault}

@@ -1,15 +1,14 @@
 -- The tables of features and rules keep their size, and what one row says of the next. Assumes nothing.
-use Rattle.std.proofs.Common.{◌≡◌, ℕ, ◌<◌, Bool, true, false, not, ◌&&◌, eqb, ltb, List, [], ◌∷◌, length, get_or, set, replicate, Some, Ok, Option, Result, sym, refl, ap, ◌∙◌, subst, ⊎_elim, arith}
+use Rattle.std.proofs.Common.{◌≡◌, ℕ, ◌<◌, Bool, true, false, not, ◌&&◌, eqb, ltb, List, [], ◌∷◌, length, get_or, set, replicate, Some, Ok, sym, refl, ap, ◌∙◌, subst, ⊎_elim, arith}
 use Rattle.std.specs.Str.{bytes_eq}
 use Rattle.std.proofs.lemmas.List.{length-set, get_or-set_same, get_or-set_other, get_or-replicate}
 use Rattle.std.proofs.lemmas.Bool.{cases_eq, lt-ltb, eq-eqb, eqb-true, not-false, not_from_true, both_ways}
 use Rattle.domain.specs.Atoms.{with_atom}
 use Rattle.domain.specs.Strips.{bare}
 use Rattle.sketch.specs.Kind.{kind_char, kind_named}
-use Rattle.sketch.specs.declared.feature.Feature.{Feature}
 use Rattle.sketch.specs.declared.feature.Kind.{Kind}
 use Rattle.sketch.specs.declared.feature.Kind.TheVariants.{Boolean, TrueCount, FalseCount}
-use Rattle.problem.specs.Reader.{Step, names_of, after_table, wanting, closed, valued, inside, step, step_by, start_of}
+use Rattle.problem.specs.Reader.{Step, names_of, after_table, wanting, closed, valued, step, step_by, start_of}
 use Rattle.problem.specs.Tables.{feature_at, other_kind, both_named, feature_added, rule_added}
 use Rattle.problem.specs.declared.fault.Table.{Table}
 use Rattle.problem.specs.declared.fault.Table.TheVariants.{Atoms, Actions, Features, Rules}

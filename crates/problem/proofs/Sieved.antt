@@ -1,5 +1,5 @@
 -- The rules of a good text name only its features, so that only the sieve can refuse them. Assumes nothing.
-use Rattle.std.proofs.Common.{◌≡◌, ℕ, ◌+◌, ◌<◌, ◌≤◌, Bool, true, false, cond, not, ◌||◌, eqb, ltb, List, [], ◌∷◌, length, get_or, take, set, replicate, Some, None, Ok, Err, Option, Result, sym, refl, ap, ◌∙◌, subst, ⊎_elim, arith, length-take}
+use Rattle.std.proofs.Common.{◌≡◌, ℕ, ◌+◌, ◌<◌, ◌≤◌, Bool, true, false, cond, not, eqb, ltb, List, [], ◌∷◌, length, set, replicate, Some, None, Ok, Err, Option, Result, sym, refl, ap, ◌∙◌, subst, ⊎_elim, arith, length-take}
 use Rattle.std.specs.Str.{bytes_eq}
 use Rattle.std.proofs.lemmas.List.{get_or-replicate, get_or_past, get_or-set_same, get_or-set_other, get_or-take, set_past}
 use Rattle.std.proofs.lemmas.Bool.{cases_eq, cases_lt, lt-ltb, le-ltb, ltb-true, or_left, or_right, not_from_true}
@@ -15,12 +15,10 @@ use Rattle.problem.specs.Form.{and_then, good_by}
 use Rattle.problem.specs.Laws.{SieveAlone}
 use Rattle.problem.specs.Lines.{lines}
 use Rattle.problem.specs.Problem.{Parsed, parsed, features_read, rules_read, of_problem, sieved, accepted, most_actions, blank_actions, text_problem}
-use Rattle.problem.specs.Reader.{Step, names_of, after_table, wanting, closed, valued, step, step_by, start_of, Sound}
-use Rattle.problem.specs.Tables.{rule_added}
+use Rattle.problem.specs.Reader.{Step, names_of, closed, valued, step, step_by, start_of, Sound}
 use Rattle.problem.specs.Text.{Reading, placed, ended, read_lines, read_text}
 use Rattle.problem.specs.declared.fault.LineFault.{LineFault}
-use Rattle.problem.specs.declared.fault.ProblemFault.{ProblemFault}
-use Rattle.problem.specs.declared.fault.ProblemFault.TheVariants.{Line, Sketch}
+use Rattle.problem.specs.declared.fault.ProblemFault.TheVariants.{Sketch}
 use Rattle.problem.specs.declared.fault.Table.{Table}
 use Rattle.problem.specs.declared.fault.Table.TheVariants.{Atoms, Actions, Features, Rules}
 use Rattle.problem.specs.declared.reader.Reader.{Reader}

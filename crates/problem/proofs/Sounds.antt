@@ -1,8 +1,8 @@
 -- Reading keeps every count to its limit. Assumes nothing.
-use Rattle.std.proofs.Common.{◌≡◌, ℕ, ◌+◌, ◌<◌, ◌≤◌, max, eqb, List, [], ◌∷◌, Ok, Err, Option, Result, sym, refl, ap, ◌∙◌, subst, arith}
+use Rattle.std.proofs.Common.{◌≡◌, ℕ, eqb, List, [], ◌∷◌, Ok, Result, ap, subst, arith}
 use Rattle.std.specs.Str.{bytes_eq}
-use Rattle.problem.specs.Form.{and_then, numbers, lettered, twice_lettered}
-use Rattle.problem.specs.Reader.{Step, names_of, after_table, wanting, moved, opened, closed, valued, inside, step, step_by, Sound, after_atom, after_action, after_feature, after_rule}
+use Rattle.problem.specs.Form.{numbers, lettered, twice_lettered}
+use Rattle.problem.specs.Reader.{Step, names_of, after_table, wanting, closed, valued, inside, step, step_by, Sound, after_atom, after_action, after_feature, after_rule}
 use Rattle.problem.specs.Rows.{checked_atom, checked_action, checked_feature, checked_rule, atom_row, action_row, feature_row, rule_row}
 use Rattle.problem.specs.declared.fault.LineFault.{LineFault}
 use Rattle.problem.specs.declared.fault.Table.{Table}

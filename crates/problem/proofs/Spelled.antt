@@ -1,17 +1,16 @@
 -- A good line is the one that is written from its values. Assumes nothing.
-use Rattle.std.proofs.Common.{◌≡◌, ℕ, ◌+◌, ◌-◌, ◌*◌, ◌^◌, ◌<◌, ◌≤◌, Bool, true, false, cond, ◌&&◌, eqb, List, [], ◌∷◌, ◌++◌, length, get_or, Some, None, Ok, Err, decimal, fold, Option, Result, sym, refl, ap, ◌∙◌, subst, arith, rules}
+use Rattle.std.proofs.Common.{◌≡◌, ℕ, ◌+◌, ◌-◌, ◌*◌, ◌^◌, ◌<◌, Bool, true, false, cond, eqb, List, [], ◌∷◌, ◌++◌, length, get_or, Some, None, Ok, Err, decimal, fold, Option, Result, sym, refl, ap, ◌∙◌, arith, rules}
 use Rattle.std.proofs.lemmas.Fmt.{decimal-digits_value}
 use Rattle.std.proofs.lemmas.Str.Parse.{IsNumeralModel, numerals_by_fold}
 use Rattle.std.proofs.lemmas.Bool.{eqb-true, eqb-false}
 use Rattle.domain.specs.Atoms.{every}
-use Rattle.problem.specs.Form.{and_then, of_line, number_at, numbers, lettered, twice_lettered}
+use Rattle.problem.specs.Form.{of_line, number_at, numbers, lettered, twice_lettered}
 use Rattle.problem.specs.Lines.{fronted, cut, fields, three, four, preceded}
 use Rattle.problem.specs.Numeral.{digit, zero_first, flaw_of, digits_value, judged, numeral, letter}
 use Rattle.problem.specs.Written.{numbers_text, lettered_text, twice_text}
 use Rattle.problem.specs.declared.fault.LineFault.{LineFault}
-use Rattle.problem.specs.declared.fault.NumberFault.{NumberFault}
 use Rattle.problem.specs.declared.fault.NumberFlaw.{NumberFlaw}
-use Rattle.problem.specs.declared.fault.NumberFlaw.TheVariants.{Empty, NotDigit, LeadingZero}
+use Rattle.problem.specs.declared.fault.NumberFlaw.TheVariants.{NotDigit, LeadingZero}
 use Rattle.problem.proofs.Inverse.{then_ok}
 use Rattle.problem.proofs.Pieces.{some_field}
 

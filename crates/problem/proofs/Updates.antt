@@ -1,5 +1,5 @@
 -- Two changes of a table commute: at different places, or where they do at one place. Assumes nothing.
-use Rattle.std.proofs.Common.{◌≡◌, ℕ, zero, suc, ◌+◌, ◌/◌, ◌%◌, ◌^◌, ◌<◌, ◌≤◌, max, Bool, true, false, List, [], length, get_or, set, sym, refl, ap, ◌∙◌, subst, ap₂, ⊎_elim, arith}
+use Rattle.std.proofs.Common.{◌≡◌, ℕ, zero, suc, ◌/◌, ◌%◌, ◌^◌, ◌<◌, ◌≤◌, true, false, List, [], length, get_or, set, sym, refl, ap, ◌∙◌, subst, ⊎_elim, arith}
 use lib.Arith.{bin_ind}
 use lib.Bits.{bit_or, or_comm, or_shr, or_mod}
 use Rattle.std.proofs.lemmas.List.{get_or-set_same, get_or-set_other, set-set, set_comm, set_past}
@@ -10,7 +10,6 @@ use Rattle.domain.specs.declared.atoms.AtomSet.{AtomSet}
 use Rattle.domain.specs.declared.strips.Action.{Action}
 use Rattle.sketch.specs.Rule as rules
 use Rattle.sketch.specs.declared.feature.Feature.{Feature}
-use Rattle.sketch.specs.declared.feature.Kind.{Kind}
 use Rattle.sketch.specs.declared.feature.Kind.TheVariants.{Boolean}
 use Rattle.sketch.specs.declared.rule.Rule.{Rule}
 use Rattle.problem.specs.Tables.{with_role, action_added, feature_added, rule_added}

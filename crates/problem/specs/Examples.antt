@@ -1,15 +1,13 @@
 -- A small text, and what it means. Assumes nothing.
 use Rattle.std.specs.Prelude.{◌≡◌, ℕ, List, [], ◌∷◌, ◌++◌, Ok, Err, codes}
 use Rattle.domain.specs.Atoms.{none, with_atom}
-use Rattle.domain.specs.declared.refusal.Refusal.TheVariants.{RulesLeft}
 use Rattle.sketch.specs.Rule.{blank}
 use Rattle.sketch.specs.declared.feature.Kind.TheVariants.{FalseCount}
 use Rattle.sketch.specs.declared.rule.Condition.TheVariants.{Positive}
 use Rattle.sketch.specs.declared.rule.Effect.TheVariants.{Down}
 use Rattle.problem.specs.Problem.{Parsed, text_problem}
-use Rattle.problem.specs.Tables.{blank_action}
 use Rattle.problem.specs.declared.fault.LineFault.TheVariants.{NoSuchAtom, Full}
-use Rattle.problem.specs.declared.fault.ProblemFault.TheVariants.{Line, Sketch}
+use Rattle.problem.specs.declared.fault.ProblemFault.TheVariants.{Line}
 use Rattle.problem.specs.declared.fault.Table.TheVariants.{Actions}
 
 -- two atoms, both of them goals and false at the start

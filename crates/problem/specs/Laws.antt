@@ -1,11 +1,11 @@
 -- Laws of problem texts that a user of the format would state. Assumes nothing.
-use Rattle.std.specs.Prelude.{◌≡◌, ℕ, ◌+◌, ◌≤◌, List, [], ◌∷◌, ◌++◌, length, Ok, Err}
+use Rattle.std.specs.Prelude.{◌≡◌, ℕ, ◌+◌, ◌≤◌, List, [], ◌∷◌, ◌++◌, length, Err}
 use Rattle.domain.specs.Refusal.{place_of}
 use Rattle.domain.specs.declared.refusal.Refusal.{Refusal}
 use Rattle.domain.specs.declared.refusal.Refusal.TheVariants.{RulesLeft}
 use Rattle.problem.specs.Fault.{line_refusal}
 use Rattle.problem.specs.Lines.{lines}
-use Rattle.problem.specs.Problem.{Parsed, text_problem}
+use Rattle.problem.specs.Problem.{text_problem}
 use Rattle.problem.specs.declared.fault.LineFault.{LineFault}
 use Rattle.problem.specs.declared.fault.ProblemFault.TheVariants.{Line, Sketch}
 

@@ -9,7 +9,6 @@ use Rattle.sketch.specs.Rule.{unnamed, rule_at}
 use Rattle.sketch.specs.declared.feature.Feature.{Feature}
 use Rattle.sketch.specs.declared.feature.Kind.{Kind}
 use Rattle.sketch.specs.declared.feature.Kind.TheVariants.{Boolean, TrueCount}
-use Rattle.sketch.specs.declared.rule.Rule.{Rule}
 use Rattle.problem.specs.declared.role.Role.{Role}
 use Rattle.problem.specs.declared.role.Role.TheVariants.{Precondition, Addition, Deletion}
 use Rattle.problem.specs.declared.tables.ActionRow.{ActionRow}

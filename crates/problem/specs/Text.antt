@@ -1,9 +1,9 @@
 -- What a text means: its lines, read one after the other. Assumes nothing.
-use Rattle.std.specs.Prelude.{◌≡◌, ℕ, ◌+◌, min, List, [], ◌∷◌, Some, None, Ok, Err, Option, Result}
+use Rattle.std.specs.Prelude.{◌≡◌, ℕ, ◌+◌, List, [], ◌∷◌, Some, None, Ok, Err, Option, Result}
 use Rattle.domain.specs.declared.strips.Action.{Action}
 use Rattle.problem.specs.Form.{and_then, good_by}
 use Rattle.problem.specs.Lines.{lines}
-use Rattle.problem.specs.Reader.{Step, start_of, step}
+use Rattle.problem.specs.Reader.{start_of, step}
 use Rattle.problem.specs.Tables.{action_added}
 use Rattle.problem.specs.declared.fault.LineFault.{LineFault}
 use Rattle.problem.specs.declared.fault.LineFault.TheVariants.{Missing}

@@ -3,7 +3,6 @@ use Rattle.std.specs.Prelude.{◌≡◌, ℕ, List, [], ◌∷◌, ◌++◌, map
 use Rattle.std.specs.List.{flat_map}
 use Rattle.problem.specs.Problem.{Parsed, text_problem}
 use Rattle.problem.specs.Reader.{names_of}
-use Rattle.problem.specs.declared.fault.Table.{Table}
 use Rattle.problem.specs.declared.fault.Table.TheVariants.{Atoms, Actions, Features, Rules}
 
 -- the values of the four tables, line by line; a letter is its byte

@@ -1,11 +1,9 @@
 -- Work keeps what holds of a run and its log: every advance keeps what a search holds. Assumes nothing.
-use Rattle.std.proofs.Common.{◌≡◌, ℕ, ◌<◌, ◌≤◌, Bool, true, false, cond, List, [], ◌∷◌, ◌++◌, length, Some, None, Option, sym, refl, ap, ◌∙◌, subst, ap₂, arith}
+use Rattle.std.proofs.Common.{◌≡◌, ℕ, ◌<◌, ◌≤◌, Bool, true, false, cond, List, ◌++◌, length, Some, None, Option, sym, refl, ap, ◌∙◌, subst, ap₂, arith}
 use Rattle.std.specs.List.{AllByRecursion as All}
-use Rattle.std.proofs.lemmas.Bool.{cond-true}
-use Rattle.domain.specs.Model.{Meaning, Lawful, Rising}
+use Rattle.domain.specs.Model.{Rising}
 use Rattle.domain.specs.declared.refusal.Refusal.{Refusal}
 use Rattle.domain.specs.declared.refusal.Refusal.TheVariants.{ForeignClaim}
-use Rattle.sketch.specs.declared.sketch.Sketch.{Sketch}
 use Rattle.planner.specs.Findings.{Findings}
 use Rattle.planner.specs.Search.{Snapshot, task, advanced}
 use Rattle.planner.specs.Stepwise.{UnderWay, resumed, worked_on, moved_on}
@@ -13,16 +11,14 @@ use Rattle.planner.specs.Whole.{outcome_of, reply_of}
 use Rattle.planner.specs.declared.node.Node.{Node}
 use Rattle.planner.specs.declared.node.Outcome.{Outcome}
 use Rattle.planner.specs.declared.node.Outcome.TheVariants.{Found, Exhausted, Open}
-use Rattle.planner.specs.declared.node.Way.{Way}
 use Rattle.planner.proofs.Between.{Between, advance_keeps}
 use Rattle.planner.proofs.Findings.{between_findings}
-use Rattle.runs.specs.Calls.{unless, handed, claims, given, few_for, moved, worked_open, subgoal, searching, work_fault, worked, worked_run, worked_reply}
-use Rattle.runs.specs.Findings.{search_task, Excluded, WithinKeys}
-use Rattle.runs.specs.History.{Watch, Drained, Log, drained, length_in, reached, note_work, note_reply, SameStates, SameMarks, exempt, work_leaves, work_notes}
+use Rattle.runs.specs.Calls.{unless, handed, claims, given, moved, worked_open, subgoal, searching, work_fault, worked, worked_run, worked_reply}
+use Rattle.runs.specs.Findings.{search_task, Excluded}
+use Rattle.runs.specs.History.{Watch, Log, drained, length_in, reached, note_work, note_reply, SameStates, SameMarks, work_leaves, work_notes}
 use Rattle.runs.specs.Run.{View}
 use Rattle.runs.specs.declared.claim.Phase.TheVariants.{Working}
 use Rattle.runs.specs.declared.claim.Ticket.{Ticket}
-use Rattle.runs.proofs.Beginning.{open_claimed}
 use Rattle.runs.proofs.Replies.{no_refusal}
 use Rattle.runs.proofs.Standing.{fair_search, Hunting, Watching, Standing, current_reached}
 

@@ -1,25 +1,24 @@
 -- Begin and abandon keep what holds of a run and its log. Assumes nothing.
-use Rattle.std.proofs.Common.{◌≡◌, ℕ, ◌+◌, ◌<◌, ◌≤◌, Bool, true, false, cond, not, ◌||◌, ltb, List, [], ◌∷◌, length, is_some, Some, None, Ok, Err, sum, Option, sym, refl, ap, ◌∙◌, subst, ⊎_elim, arith}
+use Rattle.std.proofs.Common.{◌≡◌, ℕ, ◌+◌, ◌<◌, ◌≤◌, Bool, true, false, cond, not, ltb, List, ◌∷◌, length, is_some, Some, None, sum, Option, refl, ap, ◌∙◌, subst, ⊎_elim, arith}
 use Rattle.std.specs.List.{AllByRecursion as All}
 use Rattle.std.proofs.lemmas.List.Sums.{sum_by-cons}
 use Rattle.std.proofs.lemmas.Bool.{or_from, or_parts, ltb-false, cases_Bool}
-use Rattle.domain.specs.Model.{Meaning, Lawful, Rising}
+use Rattle.domain.specs.Model.{Meaning, Rising}
 use Rattle.domain.specs.declared.refusal.Refusal.{Refusal}
 use Rattle.domain.specs.declared.refusal.Refusal.TheVariants.{AtTarget, SearchOpen, ManySearches, FewPlaces, ForeignClaim}
 use Rattle.sketch.specs.Sketch.{accepts_step}
 use Rattle.sketch.specs.Subproblem.{subproblem}
 use Rattle.sketch.specs.declared.sketch.Sketch.{Sketch}
 use Rattle.planner.specs.Search.{task, begun}
-use Rattle.planner.specs.Stepwise.{UnderWay, lacks}
+use Rattle.planner.specs.Stepwise.{UnderWay}
 use Rattle.planner.specs.declared.node.Node.{Node}
-use Rattle.planner.specs.declared.node.Outcome.TheVariants.{Found, Open}
 use Rattle.planner.proofs.Between.{begin_holds}
-use Rattle.runs.specs.Calls.{unless, told, claims, spent, subgoal, begin_fault, begun_run, begun_ticket, closed_run, abandon_fault}
+use Rattle.runs.specs.Calls.{unless, told, claims, spent, subgoal, begin_fault, begun_run, begun_ticket, closed_run}
 use Rattle.runs.specs.Findings.{search_task}
 use Rattle.runs.specs.History.{Watch, Log, note_begin, note_end, note_abandon, begin_leaves, begin_notes, abandon_leaves, abandon_notes}
 use Rattle.runs.specs.Run.{View}
 use Rattle.runs.specs.declared.claim.Phase.{Phase}
-use Rattle.runs.proofs.Replies.{no_refusal, passed}
+use Rattle.runs.proofs.Replies.{passed}
 use Rattle.runs.proofs.Standing.{no_standstill, fair_search, Hunting, Watching, Standing}
 
 not_some : {X : Type 0} (o : Option X) → is_some o ≡ false → o ≡ None

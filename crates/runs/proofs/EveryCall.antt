@@ -1,5 +1,5 @@
 -- What holds of a fresh run and its empty log holds after every list of calls. Assumes nothing.
-use Rattle.std.proofs.Common.{◌≡◌, ℕ, ◌<◌, ◌≤◌, List, [], length, sym, refl, subst, arith}
+use Rattle.std.proofs.Common.{◌≡◌, ℕ, ◌<◌, ◌≤◌, List, length, sym, refl, subst, arith}
 use Rattle.std.specs.List.{AllByRecursion as All}
 use Rattle.domain.specs.Model.{Meaning, Lawful, Rising}
 use Rattle.sketch.specs.declared.sketch.Sketch.{Sketch}

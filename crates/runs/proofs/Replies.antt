@@ -1,8 +1,7 @@
 -- Replies with a fault and without. Assumes nothing.
-use Rattle.std.proofs.Common.{◌≡◌, ℕ, Bool, true, false, cond, Some, None, Ok, Err, Option, Result, sym, refl, ap, ◌∙◌, arith}
+use Rattle.std.proofs.Common.{◌≡◌, ℕ, Bool, true, false, cond, Some, None, Ok, Err, Option, refl, ap, arith}
 use Rattle.domain.specs.declared.refusal.Refusal.{Refusal}
 use Rattle.runs.specs.Calls.{unless, told, handed}
-use Rattle.runs.specs.declared.claim.Refused.{Refused}
 
 -- what is told without a claim says what is handed back with one
 pub handed_refusal : {X Y C : Type 0} (f : Option Refusal) (x : X) (c : C) (y : Y) (e : Refusal) → Err e ≡ told f x

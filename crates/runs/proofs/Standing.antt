@@ -1,13 +1,12 @@
 -- What holds of a run and an observer's log after every list of calls, and that it says what was found. Assumes nothing.
-use Rattle.std.proofs.Common.{◌≡◌, ℕ, zero, suc, ◌+◌, ◌<◌, ◌≤◌, Bool, true, false, ◌⊎◌, List, [], ◌∷◌, ◌++◌, length, take, Some, None, sum, Option, sym, refl, ap, ◌∙◌, subst, arith}
+use Rattle.std.proofs.Common.{◌≡◌, ℕ, suc, ◌<◌, ◌≤◌, true, false, ◌⊎◌, List, length, take, Some, None, sum, Option, refl, subst, arith}
 use Rattle.std.specs.List.{AllByRecursion as All}
 use Rattle.domain.specs.Model.{Meaning, Lawful, Rising}
-use Rattle.sketch.specs.Sketch.{accepts_step, valuation}
+use Rattle.sketch.specs.Sketch.{accepts_step}
 use Rattle.sketch.specs.Subproblem.{subproblem, subproblem_lawful}
 use Rattle.sketch.specs.declared.sketch.Sketch.{Sketch}
 use Rattle.sketch.proofs.States.{states_apart}
 use Rattle.planner.specs.Stepwise.{UnderWay, resumed}
-use Rattle.planner.specs.Way.{end_of}
 use Rattle.planner.specs.Whole.{outcome_of}
 use Rattle.planner.specs.Width.{Leads}
 use Rattle.planner.specs.declared.node.Outcome.TheVariants.{Found}
@@ -17,7 +16,7 @@ use Rattle.planner.proofs.Findings.{between_findings}
 use Rattle.planner.proofs.Expanding.{Fair}
 use Rattle.planner.proofs.Lawful.{fair}
 use Rattle.runs.specs.Findings.{plan_list, Alone, search_task, Excluded, ShortestSegment, WithinKeys, start_of, Findings}
-use Rattle.runs.specs.History.{Segment, Watch, Log, steps, reached}
+use Rattle.runs.specs.History.{Watch, Log, steps, reached}
 use Rattle.runs.specs.Run.{View}
 use Rattle.runs.proofs.Ways.{leads_end}
 

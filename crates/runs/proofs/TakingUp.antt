@@ -1,10 +1,10 @@
 -- Adopt keeps what holds of a run and its log: the segment is the way that the search found. Assumes nothing.
-use Rattle.std.proofs.Common.{◌≡◌, ℕ, suc, ◌+◌, ◌<◌, ◌≤◌, min, Bool, true, false, ◌||◌, eqb, ltb, ◌⊎◌, List, [], ◌∷◌, ◌++◌, map, length, get_or, take, drop, Some, None, Option, sym, refl, ap, ◌∙◌, subst, ap₂, inl, inr, ⊎_elim, append_assoc, arith, length-append}
+use Rattle.std.proofs.Common.{◌≡◌, ℕ, suc, ◌+◌, ◌<◌, ◌≤◌, Bool, true, eqb, ltb, ◌⊎◌, List, [], ◌∷◌, ◌++◌, map, length, get_or, take, drop, Some, None, Option, sym, refl, ap, ◌∙◌, subst, ap₂, inl, inr, ⊎_elim, append_assoc, arith, length-append}
 use Rattle.std.specs.List.{AllByRecursion as All}
 use Rattle.std.proofs.ByRecursion.{All-push}
 use Rattle.std.proofs.lemmas.List.{length_push, length-map, get_or_push, get_or_append_left, map_push, take_all, take_at, length-take-le}
 use Rattle.std.proofs.lemmas.Bool.{and_parts, or_cases, cases_lt, both_ways}
-use Rattle.domain.specs.Model.{Meaning, Lawful, Rising}
+use Rattle.domain.specs.Model.{Meaning, Rising}
 use Rattle.domain.specs.declared.refusal.Refusal.{Refusal}
 use Rattle.sketch.specs.Sketch.{accepts_step}
 use Rattle.sketch.specs.Subproblem.{subproblem}

@@ -1,9 +1,9 @@
 -- What a call on the open search replies and leaves, by what the search itself does. Assumes nothing.
-use Rattle.std.proofs.Common.{◌≡◌, ℕ, Bool, true, false, cond, List, length, Some, None, Ok, Err, Option, Result, sym, refl, ap, ◌∙◌, subst}
+use Rattle.std.proofs.Common.{◌≡◌, ℕ, Bool, true, false, cond, List, length, Some, None, Ok, Err, Option, Result, sym, refl, ap, ◌∙◌}
 use Rattle.std.proofs.lemmas.Bool.{cond-true}
 use Rattle.domain.specs.Model.{Meaning}
 use Rattle.domain.specs.declared.refusal.Refusal.{Refusal}
-use Rattle.domain.specs.declared.refusal.Refusal.TheVariants.{FewPlaces, ForeignClaim}
+use Rattle.domain.specs.declared.refusal.Refusal.TheVariants.{FewPlaces}
 use Rattle.planner.specs.Search.{Snapshot}
 use Rattle.planner.specs.Stepwise.{UnderWay, lacks, worked_on, moved_on, advance_reply}
 use Rattle.planner.specs.Whole.{reply_of}

@@ -4,7 +4,7 @@ use Rattle.domain.specs.Model.{Meaning}
 use Rattle.domain.specs.declared.refusal.Refusal.{Refusal}
 use Rattle.domain.specs.declared.refusal.Refusal.TheVariants.{AtTarget, SearchOpen, ManySearches, FewPlaces, ForeignClaim, PlanFull, BrokenWay}
 use Rattle.sketch.specs.Subproblem.{subproblem}
-use Rattle.planner.specs.Search.{Snapshot, Task, task, begun}
+use Rattle.planner.specs.Search.{Snapshot}
 use Rattle.planner.specs.Stepwise.{UnderWay, started, lacks, worked_on, moved_on}
 use Rattle.planner.specs.Way.{actions_of, way_holds, end_of}
 use Rattle.planner.specs.Whole.{outcome_of}
@@ -16,8 +16,6 @@ use Rattle.runs.specs.Run.{View}
 use Rattle.runs.specs.declared.claim.Phase.{Phase}
 use Rattle.runs.specs.declared.claim.Phase.TheVariants.{Working, Met, Ended}
 use Rattle.runs.specs.declared.claim.Ticket.{Ticket}
-use Rattle.runs.specs.declared.claim.Find.{Find}
-use Rattle.runs.specs.declared.claim.Stub.{Stub}
 use Rattle.runs.specs.declared.claim.Refused.{Refused}
 use Rattle.runs.specs.declared.claim.Progressed.{Progressed}
 use Rattle.runs.specs.declared.claim.Progressed.TheVariants.{Open as Opened, Found as Finds, Exhausted as Exhausts}

@@ -1,13 +1,12 @@
 -- Lists of calls on a run, and what an observer notes of them from arguments and replies alone. Assumes nothing.
-use Rattle.std.specs.Prelude.{◌≡◌, ℕ, ◌≤◌, Bool, false, ◌&&◌, List, [], ◌∷◌, ◌++◌, length, take, drop, Some, None, Ok, Err, Option, Result, nat_le}
+use Rattle.std.specs.Prelude.{◌≡◌, ℕ, Bool, false, ◌&&◌, List, [], ◌∷◌, ◌++◌, length, take, drop, Some, None, Ok, Err, Option, Result, nat_le}
 use Rattle.domain.specs.Model.{Meaning}
 use Rattle.domain.specs.Refusal.{number_of}
 use Rattle.domain.specs.declared.refusal.Refusal.{Refusal}
-use Rattle.sketch.specs.declared.sketch.Sketch.{Sketch}
 use Rattle.planner.specs.Search.{task, begun}
 use Rattle.planner.specs.Way.{end_of}
 use Rattle.planner.specs.declared.node.Node.{Node}
-use Rattle.runs.specs.Run.{View, fresh}
+use Rattle.runs.specs.Run.{View}
 use Rattle.runs.specs.Calls.{unless, told, handed, placed, found_way, way_actions, way_length, subgoal, begin_fault, begun_run, begun_ticket, work_fault, worked, worked_run, worked_reply, adopt_fault, adopted_run, abandon_fault, closed_run}
 use Rattle.runs.specs.declared.claim.Phase.{Phase}
 use Rattle.runs.specs.declared.claim.Find.{Find}

@@ -1,22 +1,10 @@
 -- Runs: where a run stands, and what each call replies and leaves, for all arguments. Assumes nothing.
-use Rattle.std.specs.Prelude.{ℕ, ◌+◌, min, Bool, true, false, cond, not, ◌&&◌, ◌||◌, eqb, ltb, List, [], ◌++◌, length, get_or, take, drop, is_some, Some, None, Ok, Err, Option, Result}
+use Rattle.std.specs.Prelude.{ℕ, Some, None, Option}
 use Rattle.domain.specs.Model.{Meaning}
 use Rattle.domain.specs.declared.model.StateModel.{Ghosts}
-use Rattle.domain.specs.declared.refusal.Refusal.{Refusal}
-use Rattle.domain.specs.declared.refusal.Refusal.TheVariants.{AtTarget, SearchOpen, ManySearches, FewPlaces, ForeignClaim, PlanFull, BrokenWay, NoStep}
-use Rattle.sketch.specs.Subproblem.{subproblem}
 use Rattle.sketch.specs.declared.sketch.Sketch.{Sketch}
-use Rattle.planner.specs.Search.{Snapshot, task, begun}
-use Rattle.planner.specs.Stepwise.{UnderWay, standing, started, lacks, worked_on, moved_on}
-use Rattle.planner.specs.Way.{actions_of, way_holds, end_of}
-use Rattle.planner.specs.Whole.{reply_of}
-use Rattle.planner.specs.declared.node.Node.{Node}
-use Rattle.planner.specs.declared.node.Outcome.{Outcome}
-use Rattle.planner.specs.declared.node.Outcome.TheVariants.{Found, Exhausted, Open}
-use Rattle.planner.specs.declared.node.Way.{Way}
+use Rattle.planner.specs.Stepwise.{UnderWay, standing}
 use Rattle.planner.specs.declared.stepwise.Search.{Search}
-use Rattle.runs.specs.declared.claim.Phase.{Phase}
-use Rattle.runs.specs.declared.claim.Phase.TheVariants.{Working, Met, Ended}
 use Rattle.runs.specs.declared.run.Run.{Run}
 
 -- Where a run stands: the problem and the sketch; the state where the adopted segments lead, how many steps they have, the

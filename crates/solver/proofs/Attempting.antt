@@ -1,6 +1,6 @@
 -- One search from its begin to the end of its claim, by what each call replies and leaves. Assumes nothing.
-use Rattle.std.proofs.Common.{◌≡◌, ℕ, ◌+◌, ◌<◌, Bool, true, false, cond, not, ◌&&◌, eqb, ltb, List, length, is_some, Some, None, Ok, Err, Option, Result, sym, refl, ap, ◌∙◌, subst, ap₂, add-zero, arith}
-use Rattle.std.proofs.lemmas.Bool.{eq-eqb, lt-ltb, cases_Bool}
+use Rattle.std.proofs.Common.{◌≡◌, ℕ, ◌+◌, ◌<◌, Bool, true, false, cond, not, ◌&&◌, eqb, ltb, List, length, is_some, Some, None, Ok, Err, Option, Result, sym, refl, ap, ◌∙◌, ap₂, add-zero, arith}
+use Rattle.std.proofs.lemmas.Bool.{eq-eqb, lt-ltb}
 use Rattle.domain.specs.declared.refusal.Refusal.{Refusal}
 use Rattle.domain.specs.declared.refusal.Refusal.TheVariants.{AtTarget, SearchOpen, ManySearches, FewPlaces, ForeignClaim}
 use Rattle.novelty.specs.Tuples.{tuple_keys, tuple_count, tuples_fault}
@@ -17,7 +17,7 @@ use Rattle.planner.specs.declared.node.Outcome.TheVariants.{Found, Exhausted, Op
 use Rattle.planner.specs.declared.node.Way.{Way}
 use Rattle.runs.specs.Run.{View}
 use Rattle.runs.specs.Calls.{unless, told, handed, same_phase, phase_of, given, placed, way_in, way_actions, way_length, subgoal, begin_fault, begun_run, begun_ticket, work_fault, worked, worked_run, worked_reply, adopt_by, segment_fault}
-use Rattle.runs.specs.declared.claim.Phase.TheVariants.{Working, Met, Ended}
+use Rattle.runs.specs.declared.claim.Phase.TheVariants.{Met}
 use Rattle.runs.specs.declared.claim.Progressed.{Progressed}
 use Rattle.runs.specs.declared.claim.Refused.{Refused}
 use Rattle.runs.specs.declared.claim.Ticket.{Ticket}

@@ -1,10 +1,10 @@
 -- What the solver answers says what a report says: by the searches that are left. Assumes nothing.
-use Rattle.std.proofs.Common.{◌≡◌, ℕ, zero, suc, ◌+◌, ◌-◌, ◌<◌, ◌≤◌, min, Bool, true, false, cond, not, ◌||◌, eqb, ltb, List, [], ◌++◌, length, get_or, take, drop, set, is_some, Some, None, Ok, Err, Option, Result, sym, refl, ap, ◌∙◌, subst, ap₂, ⊎_elim, append_assoc, add-zero, arith, length-append, length-set}
+use Rattle.std.proofs.Common.{◌≡◌, ℕ, zero, suc, ◌+◌, ◌-◌, ◌<◌, ◌≤◌, min, Bool, true, false, cond, not, eqb, ltb, List, ◌++◌, length, take, set, is_some, Some, None, Ok, Err, Option, Result, sym, refl, ap, ◌∙◌, subst, ap₂, ⊎_elim, append_assoc, add-zero, arith, length-append, length-set}
 use Rattle.std.proofs.lemmas.List.{get_or-set_same, get_or-set_other, take_at, length-take-le}
-use Rattle.std.proofs.lemmas.Bool.{cases_eq, cases_lt, cases_Bool, or_from, or_parts, ltb-false, ltb-true, and_parts}
+use Rattle.std.proofs.lemmas.Bool.{cases_eq, cases_Bool, or_from, or_parts, ltb-false, ltb-true, and_parts}
 use Rattle.domain.specs.Model.{Meaning, Lawful, Rising}
 use Rattle.domain.specs.declared.refusal.Refusal.{Refusal}
-use Rattle.domain.specs.declared.refusal.Refusal.TheVariants.{AtTarget as TargetHere, SearchOpen, ManySearches, FewPlaces, PlanFull, BrokenWay, Limit}
+use Rattle.domain.specs.declared.refusal.Refusal.TheVariants.{AtTarget as TargetHere, ManySearches, FewPlaces, PlanFull, BrokenWay, Limit}
 use Rattle.sketch.specs.Sketch.{accepts_step}
 use Rattle.sketch.specs.Subproblem.{subproblem, subproblem_lawful}
 use Rattle.sketch.specs.declared.sketch.Sketch.{Sketch}
@@ -13,9 +13,8 @@ use Rattle.novelty.specs.declared.tuples.Tuples.{Tuples}
 use Rattle.novelty.specs.Keys.{keys_below}
 use Rattle.planner.specs.Search.{Snapshot}
 use Rattle.planner.specs.Way.{root, actions_of, way_holds, end_of, runs_to_target}
-use Rattle.planner.specs.Whole.{at_end}
 use Rattle.planner.specs.Widths.{first_of, tuple_task}
-use Rattle.planner.specs.Width.{Leads, Admissible}
+use Rattle.planner.specs.Width.{Leads}
 use Rattle.planner.specs.declared.node.Outcome.{Outcome}
 use Rattle.planner.specs.declared.node.Outcome.TheVariants.{Found, Exhausted, Open}
 use Rattle.planner.specs.declared.node.Node.{Node}
@@ -24,16 +23,15 @@ use Rattle.planner.proofs.Expanding.{Fair}
 use Rattle.planner.proofs.Findings.{whole_findings}
 use Rattle.planner.proofs.Lawful.{fair}
 use Rattle.planner.proofs.Searched.{ended_exhausted}
-use Rattle.runs.specs.Calls.{unless, placed, way_in, way_length, way_actions, begin_fault, segment_fault}
+use Rattle.runs.specs.Calls.{unless, placed, way_in, way_length, way_actions}
 use Rattle.runs.specs.Run.{View}
 use Rattle.runs.proofs.Adopting.{holds_long}
 use Rattle.runs.proofs.Replies.{passed, not_broken, no_refusal}
 use Rattle.runs.proofs.Standing.{no_standstill}
 use Rattle.runs.proofs.Ways.{leads_append, runs_below}
-use Rattle.solver.specs.Attempt.{outcome_at, way_at, row_of, ended, way_refused, closing_fault, opening_fault, plan_written}
-use Rattle.solver.specs.Reported.{row_at, StubRow, Stubs, Ends, Reported}
+use Rattle.solver.specs.Attempt.{outcome_at, way_at, row_of, way_refused, closing_fault, opening_fault, plan_written}
+use Rattle.solver.specs.Reported.{row_at, StubRow, Stubs, Reported}
 use Rattle.solver.specs.Solve.{Memory, Answer, answer, next_width, report, at_its_end, fault_at, found_at, view_after, memory_after, solve_from, solved}
-use Rattle.solver.specs.declared.report.Ending.{Ending}
 use Rattle.solver.specs.declared.report.Ending.TheVariants.{AtTarget, ThirdStub}
 use Rattle.solver.specs.declared.report.Report.{Report}
 use Rattle.solver.specs.declared.report.Row.{Row}

@@ -1,6 +1,6 @@
 -- One search of the subproblem at a run's current state, from its begin to the end of its claim: what it replies and
 -- leaves. Assumes nothing.
-use Rattle.std.specs.Prelude.{◌≡◌, ℕ, ◌+◌, Bool, List, length, is_some, Some, None, Ok, Err, Option, Result}
+use Rattle.std.specs.Prelude.{◌≡◌, ℕ, ◌+◌, List, length, is_some, Some, None, Ok, Err, Option, Result}
 use Rattle.domain.specs.declared.refusal.Refusal.{Refusal}
 use Rattle.novelty.specs.Tuples.{tuple_keys, tuple_count, tuples_fault}
 use Rattle.planner.specs.Search.{Task, Snapshot, task}

@@ -1,6 +1,6 @@
 use Rattle.std.proofs.Common.{◌≡◌, suc, ◌+◌, ◌-◌, ◌<◌, ◌≤◌, [], ◌∷◌, ◌++◌, length, get_or, take, sym, ap, ◌∙◌, subst, arith}
 use Rattle.std.proofs.lemmas.List.{take_all, length-take-le, length_push, get_or-take, get_or_push}
-use Rattle.planner.specs.Way.{parent_of, action_of, way_to, actions_of}
+use Rattle.planner.specs.Way.{action_of, way_to, actions_of}
 use Rattle.planner.proofs.Links.{parent_read, action_read, back_one}
 use Rattle.planner.proofs.way.action_at.Goals as goal
 

@@ -1,4 +1,4 @@
-use Rattle.std.proofs.Common.{◌≡◌, ◌+◌, ◌<◌, ◌≤◌, length, drop, sym, ap, ◌∙◌, subst, arith}
+use Rattle.std.proofs.Common.{◌+◌, ◌<◌, ◌≤◌, length, drop, sym, ap, ◌∙◌, arith}
 use Rattle.planner.specs.Way.{actions_of, runs_to_target}
 use Rattle.planner.proofs.Runs.{runs_more, runs_all, and_passed, and_failed}
 use Rattle.planner.proofs.way.leads_to_target.Goals as goal

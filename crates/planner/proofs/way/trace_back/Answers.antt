@@ -1,4 +1,4 @@
-use Rattle.std.proofs.Common.{◌≡◌, ◌+◌, ◌<◌, ◌≤◌, length, sym, refl, ap, ◌∙◌, subst, arith, rules}
+use Rattle.std.proofs.Common.{◌≡◌, ◌+◌, ◌<◌, ◌≤◌, length, sym, refl, ap, ◌∙◌, subst, arith}
 use Rattle.planner.specs.Way.{parent_of, way_to, root}
 use Rattle.planner.proofs.Links.{parent_read, length_way_lower, root_lower, way_to_end, root_end}
 use Rattle.planner.proofs.way.trace_back.Goals as goal

@@ -1,7 +1,7 @@
-use Rattle.std.proofs.Common.{◌≡◌, ◌+◌, length, sym, ap, ◌∙◌, arith}
+use Rattle.std.proofs.Common.{◌+◌, sym, ap, ◌∙◌}
 use Rattle.std.proofs.lemmas.List.{length_push}
 use Rattle.std.proofs.lemmas.Bool.{lt-ltb, eq-eqb, ne_eqb}
-use Rattle.planner.specs.Way.{way_to, actions_of}
+use Rattle.planner.specs.Way.{way_to}
 use Rattle.planner.proofs.Runs.{and_passed, and_failed}
 use Rattle.planner.proofs.way.way_holds.Goals as goal
 

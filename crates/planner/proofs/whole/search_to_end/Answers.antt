@@ -1,5 +1,5 @@
 use Rattle.std.proofs.Common.{◌≡◌, refl, ap, ◌∙◌, arith}
-use Rattle.planner.specs.Search.{task, snap, advanced, begun}
+use Rattle.planner.specs.Search.{task, snap, advanced}
 use Rattle.planner.specs.Whole.{at_end}
 use Rattle.planner.proofs.Findings.{end_within, end_findings}
 use Rattle.planner.proofs.Lawful.{fair, count_above_0}

@@ -1,8 +1,7 @@
-use Rattle.std.proofs.Common.{◌≡◌, ◌+◌, [], sym, ap, ◌∙◌, arith, true-eqb}
+use Rattle.std.proofs.Common.{◌+◌, sym, ap, ◌∙◌, arith, true-eqb}
 use Rattle.std.proofs.lemmas.List.{nil_from_length}
 use Rattle.std.proofs.lemmas.Result.{err_from_is_err_and, IfOk-from_err, IfOk-weaker}
 use Rattle.problem.specs.Lines.{lines}
-use Rattle.problem.specs.Reader.{Sound}
 use Rattle.problem.specs.Text.{read_text, read_lines}
 use Rattle.problem.proofs.Onward.{line_more, line_fault, lines_end, ends_so}
 use Rattle.problem.proofs.reading.read_lines.Goals as goal

@@ -1,10 +1,8 @@
-use Rattle.std.proofs.Common.{◌≡◌, suc, ◌+◌, ◌-◌, ◌<◌, ◌≤◌, true, false, length, set, Some, None, Ok, Err, sym, refl, ap, ◌∙◌, ap₂, arith, length-set}
+use Rattle.std.proofs.Common.{◌≡◌, suc, ◌+◌, ◌-◌, ◌≤◌, true, false, length, set, Some, None, Ok, Err, sym, refl, ap, ◌∙◌, ap₂, arith, length-set}
 use Rattle.std.proofs.lemmas.Result.{err_from_is_err_and}
 use Rattle.domain.specs.declared.refusal.Refusal.TheVariants.{Limit}
 use Rattle.runs.specs.Run.{view}
-use Rattle.runs.specs.Calls.{unless}
-use Rattle.solver.specs.Attempt.{row_of}
-use Rattle.solver.specs.Solve.{memory, answer, report, next_width, at_its_end, fault_at, found_at, view_after, memory_after, solve_from, solved}
+use Rattle.solver.specs.Solve.{memory, answer, report, next_width, fault_at, found_at, view_after, memory_after, solve_from, solved}
 use Rattle.solver.specs.declared.report.Ending.TheVariants.{AtTarget, ThirdStub}
 use Rattle.solver.proofs.Attempting.{told_refused, told_given, not_both, cong4}
 use Rattle.solver.proofs.Reporting.{said}

@@ -1,4 +1,4 @@
-use Rattle.std.proofs.Common.{length, sym, arith, rules}
+use Rattle.std.proofs.Common.{length, sym, rules}
 use Rattle.std.proofs.lemmas.Bool.{ltb-false}
 use Rattle.novelty.specs.Values.{value_count}
 use Rattle.novelty.specs.Valued.{key_for_values, bounded_some, bounded_none, fault_none, fault_many}

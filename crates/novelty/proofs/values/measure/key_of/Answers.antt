@@ -1,7 +1,7 @@
-use Rattle.std.proofs.Common.{◌≡◌, ◌+◌, ◌-◌, ◌*◌, ◌<◌, ◌≤◌, length, drop, sym, ap, ◌∙◌, arith}
+use Rattle.std.proofs.Common.{◌≡◌, ◌+◌, ◌-◌, ◌*◌, ◌<◌, length, drop, sym, ap, arith}
 use Rattle.std.proofs.lemmas.List.{drop_all}
 use Rattle.domain.specs.Atoms.{members}
-use Rattle.novelty.specs.Values.{value_key, value_count}
+use Rattle.novelty.specs.Values.{value_key}
 use Rattle.novelty.specs.Valued.{key_more, key_below, count_rest}
 use Rattle.novelty.proofs.values.measure.key_of.Goals as goal
 

@@ -1,4 +1,4 @@
-use Rattle.std.proofs.Common.{◌≡◌, ap, arith}
+use Rattle.std.proofs.Common.{ap, arith}
 use Rattle.planner.specs.Whole.{linked}
 use Rattle.planner.proofs.Lawful.{count_above_0}
 use Rattle.planner.proofs.stepwise.Search.begin.Goals as goal

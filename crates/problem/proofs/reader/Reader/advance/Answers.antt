@@ -1,4 +1,4 @@
-use Rattle.std.proofs.Common.{◌≡◌, ◌<◌, length, refl, ap, arith, rules}
+use Rattle.std.proofs.Common.{◌≡◌, ◌<◌, length, refl, ap, rules}
 use Rattle.problem.specs.Reader.{step, step_by}
 use Rattle.problem.specs.declared.fault.Table.TheVariants.{Atoms, Actions, Features, Rules}
 use Rattle.problem.specs.declared.reader.Wanted.TheVariants.{Values}

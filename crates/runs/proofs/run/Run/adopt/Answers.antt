@@ -1,7 +1,7 @@
-use Rattle.std.proofs.Common.{refl, arith}
+use Rattle.std.proofs.Common.{refl}
 use Rattle.runs.specs.Run.{view}
 use Rattle.runs.proofs.Replies.{handed_refusal, left_as_it_was}
-use Rattle.runs.proofs.Adopting.{room_for, reply_ok, run_ok}
+use Rattle.runs.proofs.Adopting.{reply_ok, run_ok}
 use Rattle.runs.proofs.run.Run.adopt.Goals as goal
 
 pub returns-in-Err : goal.returns-in-Err
