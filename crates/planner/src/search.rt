@@ -75,8 +75,7 @@ fn expand<D: StateModel, M: Measure>(
     progress: &mut Progress,
 )
     requires places { count ≤ length nodes.old }
-    requires waiting { progress.old.expanded < progress.old.kept }
-    requires held { progress.old.kept ≤ count }
+    requires waiting { progress.old.expanded < count }
     ensures { snap nodes.new marks.new progress.new ≡ expand_next (task (D.meaning model.now) (M.keys measure.now) count) (snap nodes.old marks.old progress.old) }
 {
     let state = nodes[progress.expanded].state;

@@ -16,7 +16,8 @@ expand-requires g c =
     let p = c.loop-done.progress in
     let on : goes_on p.met p.expanded p.kept ≡ true = sym c.goes_on.ensures ∙ c.if-not-goes_on.false in
     let waits : p.expanded < p.kept = ltb-true _ _ (and_parts (not (is_some p.met)) (ltb p.expanded p.kept) on).1 in
-    record { places = omega arith; waiting = waits; held = c.loop-done.invariant.1 }
+    let few = c.loop-done.invariant.1 in
+    record { places = omega arith; waiting = omega (arith, few) }
 
 pub loop-done-preserved : goal.loop-done-preserved
 loop-done-preserved g c =
