@@ -1,6 +1,6 @@
 -- A number in a list of atoms: by membership where the list is a set's, and never at or past a bound of the list. Assumes nothing.
 use Rattle.std.proofs.Common.{◌≡◌, ℕ, ◌<◌, ◌≤◌, false, eqb, List, [], ◌∷◌, Decides, refl, arith}
-use Rattle.std.specs.List.{ContainsAt as Has, AllByRecursion as All}
+use Rattle.std.specs.List.{ContainsAt as Has, AllByRecursion}
 use Rattle.std.proofs.lemmas.Bool.{ne_eqb, or_from}
 use Rattle.std.proofs.lemmas.Bool.Decides.{Decides-by_or, Decides-eqb, same_from_decides}
 use Rattle.domain.specs.Atoms.{has, members}
@@ -15,7 +15,7 @@ pub among_members : (s : AtomSet) (a : ℕ) → among (members s) a ≡ has s a
 among_members s a =
     same_from_decides (among (members s) a) (has s a) (decides_among (members s) a) (listed_from_has s a, has_from_listed s a)
 
-pub among_past : (xs : List ℕ) (n a : ℕ) → All (λ x. x < n) xs → n ≤ a → among xs a ≡ false
+pub among_past : (xs : List ℕ) (n a : ℕ) → AllByRecursion (λ x. x < n) xs → n ≤ a → among xs a ≡ false
 among_past [] n a h l = refl
 among_past (x ∷ xs) n a h l = or_from (eqb x a) (among xs a) (ne_eqb x a (λ e. omega (arith, h.0))) (among_past xs n a h.1 l)
 

@@ -1,7 +1,7 @@
 -- The pieces counted: where each of n stands once in n cells, the cells hold no other; and where n cells hold n pieces
 -- with no repeat, each stands once. Assumes nothing.
 use Rattle.std.proofs.Common.{◌≡◌, ℕ, zero, suc, ◌+◌, ◌<◌, ◌≤◌, Bool, true, false, cond, eqb, ltb, List, [], ◌∷◌, length, count_by, sym, refl, ap, ◌∙◌, ⊎_elim, arith}
-use Rattle.std.specs.List.{AllByRecursion as All}
+use Rattle.std.specs.List.{AllByRecursion}
 use Rattle.std.proofs.ByRecursion.{All-get_or}
 use Rattle.std.proofs.lemmas.List.Sums.{sum_by-cons, count_by-le-length}
 use Rattle.std.proofs.lemmas.Bool.{ltb-true, lt-ltb, le-ltb, cond-true, cond-false, cases_eq}
@@ -35,12 +35,12 @@ below_once zero xs once = below_zero xs
 below_once (suc n) xs once = omega (arith, below_suc n xs, once n (omega arith), below_once n xs (λ p h. once p (omega arith)))
 
 -- where as many pass as there are, all pass
-all_counted : (p : ℕ → Bool) (xs : List ℕ) → count_by p xs ≡ length xs → All (λ x. p x ≡ true) xs
+all_counted : (p : ℕ → Bool) (xs : List ℕ) → count_by p xs ≡ length xs → AllByRecursion (λ x. p x ≡ true) xs
 all_counted p [] e = tt
 all_counted p (x ∷ xs) e = by_case (p x) refl (sym (sum_by-cons (λ y. cond (p y) 1 0) x xs) ∙ e) (all_counted p xs)
   where
     by_case : (b : Bool) → p x ≡ b → cond b 1 0 + count_by p xs ≡ suc (length xs)
-        → (count_by p xs ≡ length xs → All (λ y. p y ≡ true) xs) → (p x ≡ true) × All (λ y. p y ≡ true) xs
+        → (count_by p xs ≡ length xs → AllByRecursion (λ y. p y ≡ true) xs) → (p x ≡ true) × AllByRecursion (λ y. p y ≡ true) xs
     by_case true q f rest = (q, rest (omega arith))
     by_case false q f rest = absurd (omega (arith, count_by-le-length p xs))
 
@@ -51,7 +51,7 @@ pieces_below cells nine once c h =
     ltb-true (piece_at cells c) 9
     (All-get_or (λ x. ltb x 9 ≡ true) cells c 0 (omega arith) (all_counted (λ x. ltb x 9) cells (below_once 9 cells once ∙ sym nine)))
 
-below_all : (n : ℕ) (xs : List ℕ) → All (λ x. x < n) xs → below n xs ≡ length xs
+below_all : (n : ℕ) (xs : List ℕ) → AllByRecursion (λ x. x < n) xs → below n xs ≡ length xs
 unfolding below
 below_all n [] h = refl
 below_all n (x ∷ xs) h =
@@ -70,5 +70,5 @@ once_from_most (suc n) xs most e p h =
     (λ q. once_from_most n xs (λ k l. most k (omega arith)) (omega (arith, below_suc n xs)) p (omega arith)) (cases_eq p n)
 
 -- nine cells with pieces 0 to 8 and none of them twice hold each once
-pub each_once_from : (cells : List ℕ) → length cells ≡ 9 → All (λ x. x < 9) cells → ((p : ℕ) → p < 9 → count_of p cells ≤ 1) → EachOnce cells
+pub each_once_from : (cells : List ℕ) → length cells ≡ 9 → AllByRecursion (λ x. x < 9) cells → ((p : ℕ) → p < 9 → count_of p cells ≤ 1) → EachOnce cells
 each_once_from cells nine all most = once_from_most 9 cells most (below_all 9 cells all ∙ nine)

@@ -1,7 +1,7 @@
 -- The list of members against membership. Assumes nothing.
 use Rattle.std.proofs.Common.{◌≡◌, ℕ, zero, suc, ◌+◌, ◌-◌, ◌<◌, ◌≤◌, Bool, true, false, cond, ◌&&◌, ltb, List, [], ◌∷◌, ◌++◌, Decides, filter, sym, refl, ap, ◌∙◌, subst, ap₂, ⊎_elim, add-zero, add-suc, add-one, arith}
 use mathlib.Core.Path.{fun_ext}
-use Rattle.std.specs.List.{ContainsAt as Has, AllByRecursion as All}
+use Rattle.std.specs.List.{ContainsAt as Has, AllByRecursion}
 use Rattle.std.proofs.ByRecursion.{all-has, kept_by_passes, has_append_left, has_push, all_has_itself, All-weaker, Decides-by_and}
 use Rattle.std.proofs.lemmas.List.{append-nil}
 use Rattle.std.proofs.lemmas.Bool.{cases_eq, ltb-true, lt-ltb, cond-true, cond-false, and_parts}
@@ -74,7 +74,7 @@ members_limited s n =
     ap (λ (p : ℕ → Bool). filter p (upto 256)) (fun_ext (has_limited s n)) ∙ kept_twice (has s) (λ a. ltb a n) (upto 256)
 
 -- `every` says that all pass
-pub decides_every : {X : Type 0} (p : X → Bool) (xs : List X) → Decides (every p xs) (All (λ x. p x ≡ true) xs)
+pub decides_every : {X : Type 0} (p : X → Bool) (xs : List X) → Decides (every p xs) (AllByRecursion (λ x. p x ≡ true) xs)
 decides_every p = Decides-by_and p (λ x. p x ≡ true) (every p) (λ x. (λ e. e, λ e. e)) refl (λ _ _. refl)
 
 pub decides_members : (p : ℕ → Bool) (s : AtomSet) → Decides (every p (members s)) ((a : ℕ) → has s a ≡ true → p a ≡ true)
@@ -97,6 +97,6 @@ decides_fits n s =
 pub within_limited : (n : ℕ) (s t : AtomSet) → fits n s ≡ true → within s (limited t n) ≡ within s t
 within_limited n s t e = go (members s) ((decides_every (λ a. ltb a n) (members s)).0 e)
   where
-    go : (xs : List ℕ) → All (λ a. ltb a n ≡ true) xs → every (has (limited t n)) xs ≡ every (has t) xs
+    go : (xs : List ℕ) → AllByRecursion (λ a. ltb a n ≡ true) xs → every (has (limited t n)) xs ≡ every (has t) xs
     go [] h = refl
     go (x ∷ xs) h = ap₂ ◌&&◌ (has_limited t n x ∙ and_yes (has t x) (ltb x n) h.0) (go xs h.1)

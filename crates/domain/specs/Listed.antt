@@ -3,7 +3,7 @@
 use Rattle.std.specs.Prelude.{◌≡◌, ℕ, zero, suc, ◌-◌, ◌*◌, ◌/◌, ◌%◌, ◌^◌, ◌<◌, ◌≤◌, Bool, true, false, cond, List, [], ◌∷◌, ◌++◌, filter, nat_eq, nat_lt, refl}
 use Rattle.std.proofs.Common.{sym, ap, subst, ◌∙◌, ⊎_elim, mod-lt, lt_of_lt_of_le, arith, pow_pos, pow_mono}
 use Rattle.std.proofs.Math.Nat.{div-eq_of_lt}
-use Rattle.std.specs.List.{AllByRecursion as All}
+use Rattle.std.specs.List.{AllByRecursion}
 use Rattle.std.proofs.lemmas.List.{append-nil}
 use Rattle.std.proofs.lemmas.List.Elements.{filter-append}
 use Rattle.std.proofs.ByRecursion.{All-push, All-weaker, all_kept_by, kept_by_passes}
@@ -13,7 +13,7 @@ use Rattle.domain.specs.Words.{bit}
 use Rattle.domain.specs.Model.{Rising}
 use Rattle.domain.specs.declared.atoms.AtomSet.{AtomSet}
 
-pub upto_below : (n : ℕ) → All (λ a. a < n) (upto n)
+pub upto_below : (n : ℕ) → AllByRecursion (λ a. a < n) (upto n)
 upto_below zero = tt
 upto_below (suc n) =
     All-push (λ a. a < suc n) (upto n) n (All-weaker (λ a. a < n) (λ a. a < suc n) (λ a h. omega arith) (upto n) (upto_below n)) (omega arith)
@@ -22,7 +22,7 @@ upto_below (suc n) =
 pub kept_upto_suc : (p : ℕ → Bool) (n : ℕ) → filter p (upto (suc n)) ≡ filter p (upto n) ++ cond (p n) (n ∷ []) []
 kept_upto_suc p n = filter-append p (upto n) (n ∷ [])
 
-rising_push : (xs : List ℕ) (n : ℕ) → Rising xs → All (λ a. a < n) xs → Rising (xs ++ n ∷ [])
+rising_push : (xs : List ℕ) (n : ℕ) → Rising xs → AllByRecursion (λ a. a < n) xs → Rising (xs ++ n ∷ [])
 rising_push [] n r h = (tt, tt)
 rising_push (x ∷ xs) n r h = (All-push (λ y. x < y) xs n r.0 h.0, rising_push xs n r.1 h.1)
 
@@ -63,7 +63,7 @@ limited_has_below s n a h = ⊎_elim (λ l. l) (λ l. absurd (both_ways (bit (wo
         ∙ bit_past (word s (a / 64) % 2 ^ k) k (a % 64) (mod-lt (word s (a / 64)) (pow_pos k)) (omega arith)
 
 -- every member of the members below n is below n
-pub limited_below : (s : AtomSet) (n : ℕ) → All (λ a. a < n) (members (limited s n))
+pub limited_below : (s : AtomSet) (n : ℕ) → AllByRecursion (λ a. a < n) (members (limited s n))
 unfolding members
 limited_below s n =
     All-weaker (λ a. has (limited s n) a ≡ true) (λ a. a < n) (limited_has_below s n) (members (limited s n)) (kept_by_passes (has (limited s n)) (upto 256))

@@ -1,11 +1,11 @@
 -- What a state model means, in one value, and the laws of every model. Assumes nothing.
 use Rattle.std.specs.Prelude.{◌≡◌, ℕ, ◌<◌, ◌≤◌, Bool, false, ◌||◌, List, [], ◌∷◌, ◌==◌}
-use Rattle.std.specs.List.{AllByRecursion as All}
+use Rattle.std.specs.List.{AllByRecursion}
 
 -- each element is above all before it
 abbrev pub Rising : List ℕ → Type 0
 Rising [] = Unit {0}
-Rising (x ∷ xs) = All (λ y. x < y) xs × Rising xs
+Rising (x ∷ xs) = AllByRecursion (λ y. x < y) xs × Rising xs
 
 -- a model as one value
 pub record Meaning (S : Type 0) : Type 0 where
@@ -28,7 +28,7 @@ pub record Lawful {S : Type 0} (P : Meaning S) : Type 0 where
   pub few_actions : P.actions ≤ 1024
   -- the true atoms are a set of atoms below the count: a number at or past it names a false atom
   pub rising : (s : S) → Rising (P.truths s)
-  pub below : (s : S) → All (λ a. a < P.atoms) (P.truths s)
+  pub below : (s : S) → AllByRecursion (λ a. a < P.atoms) (P.truths s)
   -- a number at or past the count of actions names one that does not apply
   pub past : (s : S) (a : ℕ) → P.actions ≤ a → P.applies s a ≡ false
   -- an action that does not apply leaves the state

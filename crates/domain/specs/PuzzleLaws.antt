@@ -3,7 +3,7 @@ use Rattle.std.specs.Prelude.{◌≡◌, ℕ, ◌<◌, ◌≤◌, false, List, l
 use Rattle.std.proofs.Common.{ap, ◌∙◌, arith}
 use mathlib.Core.HLevel.{is_prop→PathP, Π_prop}
 use Rattle.std.proofs.Math.Nat.{ℕ_set}
-use Rattle.std.specs.List.{AllByRecursion as All}
+use Rattle.std.specs.List.{AllByRecursion}
 use Rattle.std.proofs.ByRecursion.{all_kept_by}
 use Rattle.std.proofs.lemmas.Bool.{cond-false, ne_eqb, true≢false}
 use Rattle.domain.specs.Atoms.{upto}
@@ -44,7 +44,7 @@ standing_rising : (cells : List ℕ) → Rising (standing cells)
 unfolding standing
 standing_rising cells = kept_rising (stands cells) 81
 
-standing_below : (cells : List ℕ) → All (λ a. a < 81) (standing cells)
+standing_below : (cells : List ℕ) → AllByRecursion (λ a. a < 81) (standing cells)
 unfolding standing
 standing_below cells = all_kept_by (stands cells) (λ a. a < 81) (upto 81) (upto_below 81)
 

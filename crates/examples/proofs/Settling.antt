@@ -1,6 +1,6 @@
 -- Each example is computed from the definitions. Assumes nothing.
 use Rattle.std.proofs.Common.{ℕ, refl}
-use Rattle.std.specs.List.{AllByRecursion as All}
+use Rattle.std.specs.List.{AllByRecursion}
 use Rattle.domain.specs.Atoms.{members}
 use Rattle.novelty.specs.Binomials.{choose}
 use Rattle.novelty.specs.Tuples.{tuple_keys}
@@ -13,7 +13,7 @@ use Rattle.examples.specs.Examples.{Settled, examples}
 abbrev way : ℕ → ℕ → ℕ → Way
 way parent action length = record { parent = parent; action = action; length = length }
 
-pub all_settled : All Settled examples
+pub all_settled : AllByRecursion Settled examples
 unfolding members choose tuple_keys tried_from advanced way_to
 all_settled = (
   (way 2 2 3, refl, refl, refl),

@@ -2,7 +2,7 @@
 #![tactic(auto)]
 
 ghost use Rattle.std.specs.Prelude.{◌≡◌, length};
-ghost use Rattle.std.specs.List.{AllByRecursion as All};
+ghost use Rattle.std.specs.List.{AllByRecursion};
 ghost use Rattle.examples.specs.Counter.{CounterAdmissible};
 ghost use Rattle.examples.specs.Examples.{Settled, examples};
 ghost use Rattle.examples.specs.Sketches.{SketchSettled, sketch_examples};
@@ -15,7 +15,7 @@ mod tests;
 // How many examples are settled: all of them. Besides, an admissible set of keys exists for some problem and measure.
 pub fn settled() -> usize
     ensures count { result ≡ length examples }
-    ensures all { All Settled examples }
+    ensures all { AllByRecursion Settled examples }
     ensures admissible { CounterAdmissible }
 {
     13
@@ -24,7 +24,7 @@ pub fn settled() -> usize
 // How many examples of sketches are settled: all of them.
 pub fn sketches_settled() -> usize
     ensures count { result ≡ length sketch_examples }
-    ensures all { All SketchSettled sketch_examples }
+    ensures all { AllByRecursion SketchSettled sketch_examples }
 {
     5
 }

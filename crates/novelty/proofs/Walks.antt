@@ -2,7 +2,7 @@
 use Rattle.std.proofs.Common.{◌≡◌, ℕ, zero, suc, ◌+◌, ◌-◌, ◌<◌, ◌≤◌, Bool, true, false, ◌||◌, ltb, List, [], ◌∷◌, ◌++◌, map, length, get_or, take, drop, set, filter, sym, refl, ap, ◌∙◌, add-zero, zero-add, add-one, arith}
 use mathlib.Core.Path.{fun_ext}
 use mathlib.Core.List.{map-map}
-use Rattle.std.specs.List.{AllByRecursion as All}
+use Rattle.std.specs.List.{AllByRecursion}
 use Rattle.std.proofs.lemmas.List.{map-append, drop_more, drop_all}
 use Rattle.std.proofs.lemmas.Bool.{or_left}
 use Rattle.novelty.specs.Binomials.{choose, smaller}
@@ -140,7 +140,7 @@ module _ (N n : ℕ) (list atoms : List ℕ) (listed : take n list ≡ filter (�
   walk_over : take (n - 0) list ≡ filter (λ a. ltb a N) atoms
   walk_over = let whole : n - 0 ≡ n = omega arith in rw whole listed
 
-  pub walk_below : All (λ a. a < N) (take (n - 0) list)
+  pub walk_below : AllByRecursion (λ a. a < N) (take (n - 0) list)
   walk_below = rw walk_over (kept_below N atoms)
 
   pub walk_keys : (w : ℕ) → begun N (w - 0) 0 0 (take (n - 0) list) ≡ tuple_keys N w atoms

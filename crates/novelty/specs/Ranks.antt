@@ -2,7 +2,7 @@
 use Rattle.std.specs.Prelude.{◌≡◌, ℕ, zero, suc, ◌+◌, ◌-◌, ◌<◌, ◌≤◌, List, [], ◌∷◌, ◌++◌, reverse, length, refl}
 use Rattle.std.proofs.Common.{sym, ◌∙◌, ap, ap₂, inl, inr, zero-add, add-zero, add-suc, arith}
 use mathlib.Core.List.{reverse-cons}
-use Rattle.std.specs.List.{AllByRecursion as All}
+use Rattle.std.specs.List.{AllByRecursion}
 use Rattle.std.proofs.lemmas.List.{length-reverse, reverse-reverse}
 use Rattle.std.proofs.ByRecursion.{All-push, All-weaker}
 use Rattle.std.proofs.lemmas.Bool.{cases_order}
@@ -32,10 +32,10 @@ down (t ∷ ts) = choose t (suc (length ts)) + down ts
 
 abbrev Falling : List ℕ → Type 0
 Falling [] = Unit {0}
-Falling (t ∷ ts) = All (λ a. a < t) ts × Falling ts
+Falling (t ∷ ts) = AllByRecursion (λ a. a < t) ts × Falling ts
 
 -- the sets of r atoms below N have the places below C(N, r)
-down_below : (N : ℕ) (ts : List ℕ) → Falling ts → All (λ a. a < N) ts → down ts < choose N (length ts)
+down_below : (N : ℕ) (ts : List ℕ) → Falling ts → AllByRecursion (λ a. a < N) ts → down ts < choose N (length ts)
 unfolding choose
 down_below N [] f b = omega arith
 down_below N (t ∷ ts) f b =
@@ -78,15 +78,15 @@ places_reverse (t ∷ ts) =
     let e : 1 + length (reverse ts) ≡ suc (length ts) = omega (arith, length-reverse ts) in
     rw (reverse-cons t ts, places_push 1 (reverse ts) t, e) (omega (arith, places_reverse ts))
 
-all_reverse : (P : ℕ → Type 0) (ts : List ℕ) → All P ts → All P (reverse ts)
+all_reverse : (P : ℕ → Type 0) (ts : List ℕ) → AllByRecursion P ts → AllByRecursion P (reverse ts)
 all_reverse P [] h = tt
 all_reverse P (t ∷ ts) h = rw reverse-cons (All-push P (reverse ts) t (all_reverse P ts h.1) h.0)
 
-all_parts : (P : ℕ → Type 0) (xs : List ℕ) (x : ℕ) → All P (xs ++ (x ∷ [])) → All P xs × P x
+all_parts : (P : ℕ → Type 0) (xs : List ℕ) (x : ℕ) → AllByRecursion P (xs ++ (x ∷ [])) → AllByRecursion P xs × P x
 all_parts P [] x h = (tt, h.0)
 all_parts P (y ∷ xs) x h = let p = all_parts P xs x h.1 in ((h.0, p.0), p.1)
 
-rising_parts : (xs : List ℕ) (x : ℕ) → Rising (xs ++ (x ∷ [])) → Rising xs × All (λ a. a < x) xs
+rising_parts : (xs : List ℕ) (x : ℕ) → Rising (xs ++ (x ∷ [])) → Rising xs × AllByRecursion (λ a. a < x) xs
 rising_parts [] x h = (tt, tt)
 rising_parts (y ∷ xs) x h =
     let above = all_parts (λ a. y < a) xs x h.0 in
@@ -106,7 +106,7 @@ places_down : (is : List ℕ) → places 1 is ≡ down (reverse is)
 places_down is = rw reverse-reverse at (places_reverse (reverse is))
 
 -- the ranks of the sets of r atoms below N lie from C(N, 0) + .. + C(N, r - 1) on and below that and C(N, r)
-pub places_below : (N : ℕ) (is : List ℕ) → Rising is → All (λ a. a < N) is → places 1 is < choose N (length is)
+pub places_below : (N : ℕ) (is : List ℕ) → Rising is → AllByRecursion (λ a. a < N) is → places 1 is < choose N (length is)
 places_below N is h b =
     omega (arith, places_down is, ap (choose N) (length-reverse is), down_below N (reverse is) (falling_from_rising is h) (all_reverse (λ a. a < N) is b))
 
@@ -114,7 +114,7 @@ pub smaller_to : (N r s : ℕ) → r ≤ s → smaller N r ≤ smaller N s
 smaller_to N r s h = let e : r + (s - r) ≡ s = omega arith in rw e at (smaller_rises N r (s - r))
 
 -- a set with fewer members comes first
-rank_before : (N : ℕ) (is js : List ℕ) → Rising is → All (λ a. a < N) is → length is < length js → rank N is < rank N js
+rank_before : (N : ℕ) (is js : List ℕ) → Rising is → AllByRecursion (λ a. a < N) is → length is < length js → rank N is < rank N js
 rank_before N is js h b l = omega (arith, places_below N is h b, smaller_to N (suc (length is)) (length js) l)
 
 -- Of two sets with one rank neither has fewer members; then the largest members agree, and so on down.

@@ -1,6 +1,6 @@
 -- Tuples of atoms and their keys: each set of at most k of the true atoms below N has one key, its rank. Assumes nothing.
 use Rattle.std.specs.Prelude.{◌≡◌, ℕ, zero, suc, ◌+◌, ◌<◌, cond, ltb, List, [], ◌∷◌, ◌++◌, map, length, Some, None, filter, Option, ◌==◌, nat_lt}
-use Rattle.std.specs.List.{AllByRecursion as All}
+use Rattle.std.specs.List.{AllByRecursion}
 use Rattle.domain.specs.Model.{Rising}
 use Rattle.domain.specs.declared.refusal.Refusal.{Refusal}
 use Rattle.domain.specs.declared.refusal.Refusal.TheVariants.{Range, Limit, ManyKeys}
@@ -36,7 +36,7 @@ tuple_count N k = smaller N (k + 1)
 -- no two sets of atoms below N have one key
 abbrev pub OneToOne : ℕ → Type 0
 OneToOne N =
-    (is js : List ℕ) → Rising is → Rising js → All (λ a. a < N) is → All (λ a. a < N) js → rank N is ≡ rank N js → is ≡ js
+    (is js : List ℕ) → Rising is → Rising js → AllByRecursion (λ a. a < N) is → AllByRecursion (λ a. a < N) js → rank N is ≡ rank N js → is ≡ js
 
 -- why there is no measure of the sets of at most k atoms below N; None where there is one
 abbrev pub tuples_fault : ℕ → ℕ → Option Refusal

@@ -1,6 +1,6 @@
 // Novelty measures: which keys a set of atoms has.
 ghost use Rattle.std.specs.Prelude.{◌≡◌, ℕ, ◌<◌, ◌≤◌, List, length};
-ghost use Rattle.std.specs.List.{AllByRecursion as All};
+ghost use Rattle.std.specs.List.{AllByRecursion};
 ghost use Rattle.domain.specs.Atoms.{members};
 ghost use Rattle.domain.specs.Model.{Rising};
 ghost use Rattle.novelty.specs.Marks.{novel, marked};
@@ -30,7 +30,7 @@ pub trait Measure {
 
     ghost limit: { (m : Self) → total m ≤ 65536 };
 
-    ghost below: { (m : Self) (atoms : List ℕ) → Rising atoms → All (λ k. k < total m) (keys m atoms) };
+    ghost below: { (m : Self) (atoms : List ℕ) → Rising atoms → AllByRecursion (λ k. k < total m) (keys m atoms) };
 
     ghost some: { (m : Self) (atoms : List ℕ) → Rising atoms → 1 ≤ length (keys m atoms) };
 }

@@ -1,7 +1,7 @@
 -- Chains of least ways to the keys of an admissible set, by any weight of ways that every further action raises.
 -- Nothing here knows a search's memory: what is kept is given by its facts. Assumes nothing.
 use Rattle.std.proofs.Common.{◌≡◌, ℕ, zero, suc, ◌+◌, ◌<◌, ◌≤◌, Bool, true, false, ◌||◌, eqb, ◌⊎◌, List, [], ◌∷◌, ◌++◌, sym, refl, ap, ◌∙◌, subst, inl, inr, ⊎_elim, not-suc-le-zero, arith}
-use Rattle.std.specs.List.{AllByRecursion as All}
+use Rattle.std.specs.List.{AllByRecursion}
 use Rattle.std.proofs.lemmas.Bool.{both_ways, cases_Bool, cases_eq, eqb-true, eq-eqb, or_cases, or_left, or_right}
 use Rattle.domain.specs.Model.{Meaning}
 use Rattle.planner.specs.Search.{Task, keys_of}
@@ -31,7 +31,7 @@ leads_more P [] a s t u l app is = (ap (λ x. P.applies x a) l ∙ app, ap (λ x
 leads_more P (b ∷ xs) a s t u l app is = (l.0, leads_more P xs a (P.next s b) t u l.1 app is)
 
 -- a key of a list that is all below n is below n
-pub among_below : (n k : ℕ) (ks : List ℕ) → All (λ x. x < n) ks → Among k ks → k < n
+pub among_below : (n k : ℕ) (ks : List ℕ) → AllByRecursion (λ x. x < n) ks → Among k ks → k < n
 among_below n k [] all in' = absurd in'
 among_below n k (x ∷ ks) all in' =
     ⊎_elim (λ here. subst (λ y. y < n) here all.0) (λ rest. among_below n k ks all.1 rest) in'
@@ -44,7 +44,7 @@ module _ {S : Type 0} (Q : Task S) (weight : List ℕ → ℕ) (W : Weighs weigh
 
   -- A target is reached by p. No least way to a key of an admissible set weighs more than p: it would be lengthened
   -- again and again, never into a target, each time to a key not met before, and there are only so many keys.
-  module _ (below : (s : S) → All (λ k. k < Q.count) (keys_of Q s)) (T : ℕ → Bool) (adm : Admits Q weight T)
+  module _ (below : (s : S) → AllByRecursion (λ k. k < Q.count) (keys_of Q s)) (T : ℕ → Bool) (adm : Admits Q weight T)
       (p : List ℕ) (end : S) (leads : Leads Q.problem Q.problem.start p end) (target : Target Q end) where
     -- each key that f has was reached by a least way of weight at most w
     Used : (ℕ → Bool) → ℕ → Type 0
@@ -236,7 +236,7 @@ module _ {S : Type 0} (Q : Task S) (weight : List ℕ → ℕ) (W : Weighs weigh
     none_admissible all = chain_stops (λ j held open'. both_ways _ open' (all j held.kept))
 
     -- a way into a target weighs more than some kept state that is not closed
-    pub target_heavier : ((s : S) → All (λ k. k < Q.count) (keys_of Q s)) → (p : List ℕ) (t : S) → Leads Q.problem Q.problem.start p t → Target Q t
+    pub target_heavier : ((s : S) → AllByRecursion (λ k. k < Q.count) (keys_of Q s)) → (p : List ℕ) (t : S) → Leads Q.problem Q.problem.start p t → Target Q t
         → ((j : ℕ) → j < R.kept → R.closed j ≡ false → weight p ≤ weight (R.way_of j)) → ⊥
     target_heavier below p t leads target lighter =
         chain_stops

@@ -1,6 +1,6 @@
 -- Trying actions, expanding and advancing keep what the memory says. Assumes nothing.
 use Rattle.std.proofs.Common.{◌≡◌, ℕ, zero, suc, ◌+◌, ◌<◌, ◌≤◌, Bool, true, false, cond, ◌&&◌, ltb, ◌⊎◌, List, length, is_some, Some, None, sym, refl, ap, ◌∙◌, subst, inl, inr, ⊎_elim, arith}
-use Rattle.std.specs.List.{AllByRecursion as All}
+use Rattle.std.specs.List.{AllByRecursion}
 use Rattle.std.proofs.lemmas.Bool.{both_ways, cases_eq, cases_Bool, cond_both, cond-true, cond-false, and_parts, and_cases, ltb-true, lt-ltb}
 use Rattle.novelty.specs.Marks.{novel}
 use Rattle.planner.specs.Search.{Task, Snapshot, keys_of, keep, meet, arrive, tried, tried_from, link}
@@ -14,7 +14,7 @@ use Rattle.planner.proofs.Marking.{novel_some, novel_none}
 -- what the laws of model and measure give: keys are below the count, each state has one, and no action past the
 -- count of actions applies
 pub record Fair {S : Type 0} (Q : Task S) : Type 0 where
-  pub below : (s : S) → All (λ k. k < Q.count) (keys_of Q s)
+  pub below : (s : S) → AllByRecursion (λ k. k < Q.count) (keys_of Q s)
   pub some : (s : S) → 1 ≤ length (keys_of Q s)
   pub past : (s : S) (a : ℕ) → Q.problem.actions ≤ a → Q.problem.applies s a ≡ false
 

@@ -1,7 +1,7 @@
 -- Keeping a novel state keeps what the memory says. Assumes nothing.
 use Rattle.std.proofs.Common.{◌≡◌, ℕ, suc, ◌+◌, ◌<◌, ◌≤◌, true, false, not, ◌≢◌, List, map, length, get_or, set, sym, ap, ◌∙◌, subst, ⊎_elim, arith}
 use mathlib.Core.Path.{subst₃}
-use Rattle.std.specs.List.{AllByRecursion as All}
+use Rattle.std.specs.List.{AllByRecursion}
 use Rattle.std.proofs.lemmas.List.{map-set, get_or-set_same, get_or-set_other, length-map, length-set}
 use Rattle.std.proofs.lemmas.Bool.{cases_eq, not_from_true, not_from_false, not-true}
 use Rattle.novelty.specs.Marks.{unmarked, novel, marked}
@@ -81,7 +81,7 @@ module _ {S : Type 0} (Q : Task S) {nodes : List (Node S)} {marks : List ℕ} {e
   }
 
   module _ (app : Q.problem.applies (state Q nodes expanded) a ≡ true) (is : Q.problem.next (state Q nodes expanded) a ≡ t)
-      (no_target : Q.problem.target t ≡ false) (below : All (λ k. k < Q.count) (keys_of Q t)) (new : novel (keys_of Q t) marks ≡ true) where
+      (no_target : Q.problem.target t ≡ false) (below : AllByRecursion (λ k. k < Q.count) (keys_of Q t)) (new : novel (keys_of Q t) marks ≡ true) where
     -- action b applies in s and leads to u
     abbrev Goes : S → ℕ → S → Type 0
     Goes s b u = (Q.problem.applies s b ≡ true) × (Q.problem.next s b ≡ u)

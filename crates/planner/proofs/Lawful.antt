@@ -1,13 +1,13 @@
 -- The laws of a model and of a measure, as a search uses them. Assumes nothing.
 use Rattle.std.proofs.Common.{ℕ, ◌<◌, ◌≤◌, List, length}
-use Rattle.std.specs.List.{AllByRecursion as All}
+use Rattle.std.specs.List.{AllByRecursion}
 use Rattle.domain.specs.Model.{Meaning, Lawful, Rising}
 use Rattle.planner.specs.Search.{task}
 use Rattle.planner.proofs.Expanding.{Fair}
 use Rattle.planner.proofs.Steps.{some_count}
 
 module _ {S : Type 0} (P : Meaning S) (lawful : Lawful P) (keys : List ℕ → List ℕ) (total : ℕ)
-    (below : (atoms : List ℕ) → Rising atoms → All (λ k. k < total) (keys atoms))
+    (below : (atoms : List ℕ) → Rising atoms → AllByRecursion (λ k. k < total) (keys atoms))
     (some : (atoms : List ℕ) → Rising atoms → 1 ≤ length (keys atoms)) where
   pub fair : Fair (task P keys total)
   fair = record {

@@ -1,13 +1,13 @@
 -- What one step of a search leaves: the lemmas that the loops of the kernel go by. Assumes nothing.
 use Rattle.std.proofs.Common.{◌≡◌, ℕ, zero, suc, ◌+◌, ◌-◌, ◌<◌, ◌≤◌, Bool, true, false, cond, ◌&&◌, ltb, List, [], ◌∷◌, length, is_some, sym, refl, ap, ◌∙◌, not-suc-le-zero, arith}
 use native.Mathlib.Nat.{sub-zero}
-use Rattle.std.specs.List.{AllByRecursion as All}
+use Rattle.std.specs.List.{AllByRecursion}
 use Rattle.std.proofs.lemmas.Bool.{both_ways, cond_both, cond-true, cond-false, and_parts, ltb-true}
 use Rattle.novelty.specs.Marks.{novel}
 use Rattle.planner.specs.Search.{Task, Snapshot, keys_of, keep, meet, state_at, arrive, tried, tried_from, expand_next, goes_on, advanced}
 
 -- keys below a count, at least one: the count is above 0
-pub some_count : (n : ℕ) (ks : List ℕ) → 1 ≤ length ks → All (λ k. k < n) ks → 1 ≤ n
+pub some_count : (n : ℕ) (ks : List ℕ) → 1 ≤ length ks → AllByRecursion (λ k. k < n) ks → 1 ≤ n
 some_count n [] some below = absurd (not-suc-le-zero some)
 some_count n (k ∷ ks) some below = let here = below.0 in omega arith
 

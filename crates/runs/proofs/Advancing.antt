@@ -1,6 +1,6 @@
 -- Work keeps what holds of a run and its log: every advance keeps what a search holds. Assumes nothing.
 use Rattle.std.proofs.Common.{◌≡◌, ℕ, ◌<◌, ◌≤◌, Bool, true, false, cond, List, ◌++◌, length, Some, None, Option, sym, refl, ap, ◌∙◌, subst, ap₂, arith}
-use Rattle.std.specs.List.{AllByRecursion as All}
+use Rattle.std.specs.List.{AllByRecursion}
 use Rattle.domain.specs.Model.{Rising}
 use Rattle.domain.specs.declared.refusal.Refusal.{Refusal}
 use Rattle.domain.specs.declared.refusal.Refusal.TheVariants.{ForeignClaim}
@@ -28,7 +28,7 @@ ticket_latest true rest h = refl
 ticket_latest false rest h = absurd (no_refusal ForeignClaim h)
 
 module _ {S M : Type 0} (keys : M → List ℕ → List ℕ) (total : M → ℕ)
-    (below : (m : M) (atoms : List ℕ) → Rising atoms → All (λ q. q < total m) (keys m atoms))
+    (below : (m : M) (atoms : List ℕ) → Rising atoms → AllByRecursion (λ q. q < total m) (keys m atoms))
     (some : (m : M) (atoms : List ℕ) → Rising atoms → 1 ≤ length (keys m atoms)) where
   -- u is the open search and w what was noted of it; the memory that is lent is the one that was left
   module _ (v : View S M) (l : Log S M) (X : Standing keys total below some v l) (number n : ℕ) (u : UnderWay M) (w : Watch S M)
@@ -55,7 +55,7 @@ module _ {S M : Type 0} (keys : M → List ℕ → List ℕ) (total : M → ℕ)
 
     -- an exhausted search excludes every admissible set, where it began and by its measure as the observer has them
     excluded : (o : Outcome) → outcome_of after.nodes after.met after.expanded after.kept ≡ o
-        → All (Excluded keys total v.problem v.sketch) (drained (given o number) (reached v.problem l) w.measure ++ l.exhausted)
+        → AllByRecursion (Excluded keys total v.problem v.sketch) (drained (given o number) (reached v.problem l) w.measure ++ l.exhausted)
     excluded Open is = X.exclusion
     excluded (Found x) is = X.exclusion
     excluded Exhausted is = (

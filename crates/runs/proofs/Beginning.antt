@@ -1,6 +1,6 @@
 -- Begin and abandon keep what holds of a run and its log. Assumes nothing.
 use Rattle.std.proofs.Common.{◌≡◌, ℕ, ◌+◌, ◌<◌, ◌≤◌, Bool, true, false, cond, not, ltb, List, ◌∷◌, length, is_some, Some, None, sum, Option, refl, ap, ◌∙◌, subst, ⊎_elim, arith}
-use Rattle.std.specs.List.{AllByRecursion as All}
+use Rattle.std.specs.List.{AllByRecursion}
 use Rattle.std.proofs.lemmas.List.Sums.{sum_by-cons}
 use Rattle.std.proofs.lemmas.Bool.{or_from, or_parts, ltb-false, cases_Bool}
 use Rattle.domain.specs.Model.{Meaning, Rising}
@@ -36,7 +36,7 @@ pub effort_more : (effort expanded noted : ℕ) (ended : List ℕ) → effort �
 effort_more effort expanded noted ended e f = let more = sum_by-cons (λ (x : ℕ). x) noted ended in omega arith
 
 module _ {S M : Type 0} (keys : M → List ℕ → List ℕ) (total : M → ℕ)
-    (below : (m : M) (atoms : List ℕ) → Rising atoms → All (λ q. q < total m) (keys m atoms))
+    (below : (m : M) (atoms : List ℕ) → Rising atoms → AllByRecursion (λ q. q < total m) (keys m atoms))
     (some : (m : M) (atoms : List ℕ) → Rising atoms → 1 ≤ length (keys m atoms)) where
   -- the start of a subproblem is none of its targets: no target of the model, and no subgoal of itself
   start_no_target : (P : Meaning S) (k : Sketch) (s : S) → P.target s ≡ false → (subproblem P k s).target s ≡ false

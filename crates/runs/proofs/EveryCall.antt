@@ -1,6 +1,6 @@
 -- What holds of a fresh run and its empty log holds after every list of calls. Assumes nothing.
 use Rattle.std.proofs.Common.{◌≡◌, ℕ, ◌<◌, ◌≤◌, List, length, sym, refl, subst, arith}
-use Rattle.std.specs.List.{AllByRecursion as All}
+use Rattle.std.specs.List.{AllByRecursion}
 use Rattle.domain.specs.Model.{Meaning, Lawful, Rising}
 use Rattle.sketch.specs.declared.sketch.Sketch.{Sketch}
 use Rattle.runs.specs.Findings.{Always}
@@ -12,7 +12,7 @@ use Rattle.runs.proofs.Standing.{Standing, found_out}
 use Rattle.runs.proofs.TakingUp.{adopt_step}
 
 module _ {S M : Type 0} (keys : M → List ℕ → List ℕ) (total : M → ℕ)
-    (below : (m : M) (atoms : List ℕ) → Rising atoms → All (λ q. q < total m) (keys m atoms))
+    (below : (m : M) (atoms : List ℕ) → Rising atoms → AllByRecursion (λ q. q < total m) (keys m atoms))
     (some : (m : M) (atoms : List ℕ) → Rising atoms → 1 ≤ length (keys m atoms)) where
   fresh_stands : (P : Meaning S) (k : Sketch) → Lawful P → Standing keys total below some (fresh P k) nothing
   fresh_stands P k lawful = record {

@@ -1,6 +1,6 @@
 -- What holds of a run and an observer's log after every list of calls, and that it says what was found. Assumes nothing.
 use Rattle.std.proofs.Common.{◌≡◌, ℕ, suc, ◌<◌, ◌≤◌, true, false, ◌⊎◌, List, length, take, Some, None, sum, Option, refl, subst, arith}
-use Rattle.std.specs.List.{AllByRecursion as All}
+use Rattle.std.specs.List.{AllByRecursion}
 use Rattle.domain.specs.Model.{Meaning, Lawful, Rising}
 use Rattle.sketch.specs.Sketch.{accepts_step}
 use Rattle.sketch.specs.Subproblem.{subproblem, subproblem_lawful}
@@ -25,7 +25,7 @@ pub no_standstill : (k : Sketch) (truths : List ℕ) → accepts_step k truths t
 no_standstill k truths h = states_apart k (λ _. truths) 1 (λ _ _. h) 0 1 (omega arith) (omega arith) refl
 
 module _ {S M : Type 0} (keys : M → List ℕ → List ℕ) (total : M → ℕ)
-    (below : (m : M) (atoms : List ℕ) → Rising atoms → All (λ q. q < total m) (keys m atoms))
+    (below : (m : M) (atoms : List ℕ) → Rising atoms → AllByRecursion (λ q. q < total m) (keys m atoms))
     (some : (m : M) (atoms : List ℕ) → Rising atoms → 1 ≤ length (keys m atoms)) where
   -- the laws of the model and of the measure, as a search from s on uses them
   pub fair_search : (P : Meaning S) (k : Sketch) (s : S) (m : M) → Lawful P → Fair (search_task keys total P k s m)
@@ -60,9 +60,9 @@ module _ {S M : Type 0} (keys : M → List ℕ → List ℕ) (total : M → ℕ)
     pub last : (n : ℕ) → length l.segments ≡ suc n
         → (v.problem.target v.current ≡ true)
         ⊎ (accepts_step v.sketch (v.problem.truths (start_of keys total v.problem v.sketch l.segments n)) (v.problem.truths v.current) ≡ true)
-    pub exclusion : All (Excluded keys total v.problem v.sketch) l.exhausted
-    pub shortest : All (ShortestSegment keys total v.problem v.sketch) l.segments
-    pub kept : All (WithinKeys keys total v.problem v.sketch) l.replies
+    pub exclusion : AllByRecursion (Excluded keys total v.problem v.sketch) l.exhausted
+    pub shortest : AllByRecursion (ShortestSegment keys total v.problem v.sketch) l.segments
+    pub kept : AllByRecursion (WithinKeys keys total v.problem v.sketch) l.replies
     pub leads : Leads v.problem v.problem.start (steps l.segments) v.current
     pub long : v.length ≡ length (steps l.segments)
     pub plan : Alone l.lists → take v.length (plan_list l.lists) ≡ steps l.segments

@@ -1,6 +1,6 @@
 -- Adopt keeps what holds of a run and its log: the segment is the way that the search found. Assumes nothing.
 use Rattle.std.proofs.Common.{◌≡◌, ℕ, suc, ◌+◌, ◌<◌, ◌≤◌, Bool, true, eqb, ltb, ◌⊎◌, List, [], ◌∷◌, ◌++◌, map, length, get_or, take, drop, Some, None, Option, sym, refl, ap, ◌∙◌, subst, ap₂, inl, inr, ⊎_elim, append_assoc, arith, length-append}
-use Rattle.std.specs.List.{AllByRecursion as All}
+use Rattle.std.specs.List.{AllByRecursion}
 use Rattle.std.proofs.ByRecursion.{All-push}
 use Rattle.std.proofs.lemmas.List.{length_push, length-map, get_or_push, get_or_append_left, map_push, take_all, take_at, length-take-le}
 use Rattle.std.proofs.lemmas.Bool.{and_parts, or_cases, cases_lt, both_ways}
@@ -58,7 +58,7 @@ front_placed plan segment a n long inside =
     ∙ take_at (take a plan ++ segment) _ (a + n) (length-append (take a plan) segment ∙ ap₂ (λ x y. x + y) (length-take-le a plan inside) long)
 
 module _ {S M : Type 0} (keys : M → List ℕ → List ℕ) (total : M → ℕ)
-    (below : (m : M) (atoms : List ℕ) → Rising atoms → All (λ q. q < total m) (keys m atoms))
+    (below : (m : M) (atoms : List ℕ) → Rising atoms → AllByRecursion (λ q. q < total m) (keys m atoms))
     (some : (m : M) (atoms : List ℕ) → Rising atoms → 1 ≤ length (keys m atoms)) where
   -- u is the open search, w what was noted of it, and nothing speaks against adopting the way that it found
   module _ (v : View S M) (l : Log S M) (X : Standing keys total below some v l) (number : ℕ) (u : UnderWay M) (is : v.opened ≡ Some u) (w : Watch S M)

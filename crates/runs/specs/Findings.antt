@@ -1,6 +1,6 @@
 -- What stands after every list of calls on a run. Assumes nothing.
 use Rattle.std.specs.Prelude.{◌≡◌, ℕ, ◌<◌, ◌≤◌, Bool, List, [], ◌∷◌, map, length, take, Some, sum, ◌≢◌, slice_index_or}
-use Rattle.std.specs.List.{AllByRecursion as All}
+use Rattle.std.specs.List.{AllByRecursion}
 use Rattle.domain.specs.Model.{Meaning}
 use Rattle.sketch.specs.Sketch.{valuation}
 use Rattle.sketch.specs.Subproblem.{subproblem}
@@ -57,12 +57,12 @@ module _ {S M : Type 0} (keys : M → List ℕ → List ℕ) (total : M → ℕ)
 -- of a run that stands as v and an observer's log
 pub record Findings {S M : Type 0} (keys : M → List ℕ → List ℕ) (total : M → ℕ) (v : View S M) (l : Log S M) : Type 0 where
   -- exclusion: a search that work called exhausted has no admissible set of keys
-  pub exclusion : All (Excluded keys total v.problem v.sketch) l.exhausted
+  pub exclusion : AllByRecursion (Excluded keys total v.problem v.sketch) l.exhausted
   -- shortest: of every adopted segment
-  pub shortest : All (ShortestSegment keys total v.problem v.sketch) l.segments
+  pub shortest : AllByRecursion (ShortestSegment keys total v.problem v.sketch) l.segments
   -- kept: the open search keeps no more states than its measure has keys, and no reply of work says more
   pub keeping : (u : UnderWay M) → v.opened ≡ Some u → u.kept ≤ total u.measure
-  pub kept : All (WithinKeys keys total v.problem v.sketch) l.replies
+  pub kept : AllByRecursion (WithinKeys keys total v.problem v.sketch) l.replies
   -- distinct starts
   pub distinct : StartsApart keys total v.problem v.sketch l.segments
   -- plan: the steps of the segments lead from the model's start to the state that the run tells, and it tells their number;

@@ -1,6 +1,6 @@
 // The walk over the tuples of a rising list of atoms: from each tuple to those with one more atom behind its last.
 ghost use Rattle.std.specs.Prelude.{◌≡◌, ◌-◌, ◌*◌, ◌^◌, ◌<◌, ◌≤◌, drop};
-ghost use Rattle.std.specs.List.{AllByRecursion as All};
+ghost use Rattle.std.specs.List.{AllByRecursion};
 ghost use Rattle.novelty.specs.Marks.{novel, marked};
 ghost use Rattle.novelty.specs.Walk.{begun};
 
@@ -18,7 +18,7 @@ impl Tuples {
         key: usize,
         marks: &[u8],
     ) -> bool
-        requires atoms { All (λ a. a < self.now.atoms) atoms.now }
+        requires atoms { AllByRecursion (λ a. a < self.now.atoms) atoms.now }
         requires depth { size ≤ self.now.width }
         requires fits { key ≤ size * 2 ^ 33 }
         ensures { result ≡ novel (begun self.now.atoms (self.now.width - size) size key (drop from atoms.now)) marks.now }
@@ -46,7 +46,7 @@ impl Tuples {
         key: usize,
         marks: &mut [u8],
     )
-        requires atoms { All (λ a. a < self.now.atoms) atoms.now }
+        requires atoms { AllByRecursion (λ a. a < self.now.atoms) atoms.now }
         requires depth { size ≤ self.now.width }
         requires fits { key ≤ size * 2 ^ 33 }
         ensures { marks.new ≡ marked (begun self.now.atoms (self.now.width - size) size key (drop from atoms.now)) marks.old }
