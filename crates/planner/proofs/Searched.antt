@@ -10,7 +10,7 @@ use Rattle.planner.specs.Findings.{WholeFindings}
 use Rattle.planner.specs.Search.{Task, Snapshot}
 use Rattle.planner.specs.Whole.{at_end, reply_of, search_fault, search_reply, search_nodes}
 use Rattle.planner.specs.Way.{way_holds, way_fault, written_reply}
-use Rattle.planner.specs.Widths.{unmade, first_of, tuple_task, width_fault, Searched, ExhaustedBelow}
+use Rattle.planner.specs.Widths.{unmade, first_fault, tuple_task, width_fault, Searched, ExhaustedBelow}
 use Rattle.planner.specs.declared.node.Node.{Node}
 use Rattle.planner.specs.declared.node.Reply.{Reply}
 use Rattle.planner.specs.declared.node.Way.{Way}
@@ -59,7 +59,7 @@ pub fault_by_length : {S : Type 0} (P : Meaning S) (k : ℕ) (nodes other : List
 fault_by_length P k nodes other marks more n m =
     ap₂
     (λ a b.
-    first_of (tuples_fault P.atoms k)
+    first_fault (tuples_fault P.atoms k)
     (cond (P.target P.start) (Some AtTarget)
     (cond (ltb a (tuple_count P.atoms k) || ltb b (tuple_count P.atoms k)) (Some FewPlaces) None)))
     n m

@@ -19,9 +19,9 @@ abbrev pub unmade : Reply
 unmade = record { outcome = Open; expanded = 0; kept = 0 }
 
 -- the first of two faults
-abbrev pub first_of : Option Refusal → Option Refusal → Option Refusal
-first_of (Some e) f = Some e
-first_of None f = f
+abbrev pub first_fault : Option Refusal → Option Refusal → Option Refusal
+first_fault (Some e) f = Some e
+first_fault None f = f
 
 module _ {S : Type 0} (P : Meaning S) where
   -- the task of searching P by the sets of at most k of its true atoms
@@ -30,7 +30,7 @@ module _ {S : Type 0} (P : Meaning S) where
 
   -- why there is no such search in a memory of so many nodes and marks, if there is none
   abbrev pub width_fault : ℕ → List (Node S) → List ℕ → Option Refusal
-  width_fault k nodes marks = first_of (tuples_fault P.atoms k) (search_fault (tuple_task k) nodes marks)
+  width_fault k nodes marks = first_fault (tuples_fault P.atoms k) (search_fault (tuple_task k) nodes marks)
 
   -- r is the reply of a whole search by the sets of at most k atoms that began in some memory, left these nodes, and
   -- found out what such a search finds out
