@@ -9,7 +9,7 @@ use Rattle.planner.specs.Search.{Task, Snapshot, task, begun}
 use Rattle.planner.specs.Stepwise.{UnderWay, started, moved_on, lacks}
 use Rattle.planner.specs.Way.{way_to, end_of}
 use Rattle.planner.specs.Whole.{outcome_of, at_end}
-use Rattle.planner.specs.Widths.{first_of}
+use Rattle.planner.specs.Widths.{first_fault}
 use Rattle.planner.specs.declared.node.Link.{Link}
 use Rattle.planner.specs.declared.node.Node.{Node}
 use Rattle.planner.specs.declared.node.Outcome.{Outcome}
@@ -71,7 +71,7 @@ module _ {S : Type 0} (v : View S Tuples) (N k : ℕ) (m : Tuples) (atoms : m.at
   pub opening_is : fault ≡ opening_fault N k v (length nodes) (length marks)
   opening_is =
       ap₂ (λ a b. begin_fault v (tuple_count a b) (length nodes) (length marks)) atoms width
-      ∙ ap (λ f. first_of f (begin_fault v (tuple_count N k) (length nodes) (length marks))) (sym sound)
+      ∙ ap (λ f. first_fault f (begin_fault v (tuple_count N k) (length nodes) (length marks))) (sym sound)
 
   abbrev Q : Task S
   Q = task (subgoal v) (tuples m) n
@@ -245,7 +245,7 @@ module _ {S M : Type 0} (N k : ℕ) (v : View S M) (nodes : List (Node S)) (mark
   fault_is =
       cong4 (λ x c s n. settle_fault x c s n) w_open claim_is states_end refl
       ∙ fault_by N k v X.under X.count g.nodes (outcome_at g) X.outcome (length plan)
-      ∙ sym (ap (λ f. first_of f (closing_fault N k v g (length plan))) free)
+      ∙ sym (ap (λ f. first_fault f (closing_fault N k v g (length plan))) free)
 
   pub settle_refused : (r : Result ℕ Refusal) (e : Refusal) → r ≡ told (settle_fault w claim states (length plan)) (settled_length w claim) → r ≡ Err e
       → attempt_fault N k v nodes marks plan ≡ Some e

@@ -13,7 +13,7 @@ use Rattle.novelty.specs.declared.tuples.Tuples.{Tuples}
 use Rattle.novelty.specs.Keys.{keys_below}
 use Rattle.planner.specs.Search.{Snapshot}
 use Rattle.planner.specs.Way.{root, actions_of, way_holds, end_of, runs_to_target}
-use Rattle.planner.specs.Widths.{first_of, tuple_task}
+use Rattle.planner.specs.Widths.{first_fault, tuple_task}
 use Rattle.planner.specs.Width.{Leads}
 use Rattle.planner.specs.declared.node.Outcome.{Outcome}
 use Rattle.planner.specs.declared.node.Outcome.TheVariants.{Found, Exhausted, Open}
@@ -38,7 +38,7 @@ use Rattle.solver.specs.declared.report.Row.{Row}
 use Rattle.solver.proofs.Solving.{ends_at_target, ends_without_row, ends_refused, ends_with_stub, goes_on_by}
 
 -- both of two faults are none
-first_none : (f h : Option Refusal) → first_of f h ≡ None → (f ≡ None) × (h ≡ None)
+first_none : (f h : Option Refusal) → first_fault f h ≡ None → (f ≡ None) × (h ≡ None)
 first_none (Some e) h is = absurd (no_refusal e is)
 first_none None h is = (refl, is)
 

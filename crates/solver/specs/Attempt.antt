@@ -7,7 +7,7 @@ use Rattle.planner.specs.Search.{Task, Snapshot, task}
 use Rattle.planner.specs.Stepwise.{UnderWay}
 use Rattle.planner.specs.Way.{actions_of, end_of}
 use Rattle.planner.specs.Whole.{outcome_of, at_end}
-use Rattle.planner.specs.Widths.{first_of}
+use Rattle.planner.specs.Widths.{first_fault}
 use Rattle.planner.specs.declared.node.Node.{Node}
 use Rattle.planner.specs.declared.node.Outcome.{Outcome}
 use Rattle.planner.specs.declared.node.Way.{Way}
@@ -72,7 +72,7 @@ module _ {S M : Type 0} (N : ℕ) (k : ℕ) (v : View S M) where
 
   -- there is no such measure, or begin is refused
   abbrev pub opening_fault : ℕ → ℕ → Option Refusal
-  opening_fault places marks = first_of (tuples_fault N k) (begin_fault v (tuple_count N k) places marks)
+  opening_fault places marks = first_fault (tuples_fault N k) (begin_fault v (tuple_count N k) places marks)
 
   -- the search at its end
   abbrev pub ended : List (Node S) → List ℕ → Snapshot S
@@ -123,7 +123,7 @@ module _ {S M : Type 0} (N : ℕ) (k : ℕ) (v : View S M) where
     marks_after = unless (opening_fault (length nodes) (length marks)) marks (ended nodes marks).marks
 
     abbrev pub attempt_fault : List ℕ → Option Refusal
-    attempt_fault plan = first_of (opening_fault (length nodes) (length marks)) (closing_fault (ended nodes marks) (length plan))
+    attempt_fault plan = first_fault (opening_fault (length nodes) (length marks)) (closing_fault (ended nodes marks) (length plan))
 
     abbrev pub plan_written : Option Way → List ℕ → List ℕ
     plan_written None plan = plan

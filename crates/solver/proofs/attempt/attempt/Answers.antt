@@ -1,6 +1,6 @@
 use Rattle.std.proofs.Common.{◌≡◌, ltb, length, Some, Ok, Err, sym, refl, ap, ◌∙◌}
 use Rattle.std.proofs.lemmas.Result.{err_from_is_err_and}
-use Rattle.planner.specs.Widths.{first_of}
+use Rattle.planner.specs.Widths.{first_fault}
 use Rattle.runs.specs.Run.{view}
 use Rattle.runs.specs.Calls.{unless, told}
 use Rattle.solver.specs.Attempt.{ended, closing_fault, attempt_fault, plan_written, way_at, row_of}
@@ -20,7 +20,7 @@ returns-in_err-claim g c =
     let e = c.in_err-claim.field-0.0 in
     let end = ended N k v nodes marks in
     let refused = told_refused _ _ e (sym c.search_here.ensures.reply ∙ c.in_err-claim.was) in
-    let fault : attempt_fault N k v nodes marks plan ≡ Some e = ap (λ f. first_of f (closing_fault N k v end (length plan))) refused in
+    let fault : attempt_fault N k v nodes marks plan ≡ Some e = ap (λ f. first_fault f (closing_fault N k v end (length plan))) refused in
     let is : c.from_residual.result ≡ Err e = cc in
     record {
       reply = is ∙ sym (ap (λ f. told f (row_of c.args.number k end)) fault);
