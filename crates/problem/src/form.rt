@@ -7,7 +7,7 @@ use crate::line::Line;
 use crate::numeral::{read_letter, read_number};
 
 // Three numbers.
-pub fn read_numbers(line: &Line) -> Result<(usize, usize, usize), LineFault>
+pub(crate) fn read_numbers(line: &Line) -> Result<(usize, usize, usize), LineFault>
     ensures { result ≡ good_by capped_numbers (numbers line.now.number line.now.bytes.now) }
 {
     let (first, second, third) = line.three_columns()?;
@@ -18,7 +18,7 @@ pub fn read_numbers(line: &Line) -> Result<(usize, usize, usize), LineFault>
 }
 
 // A number, a letter and a number.
-pub fn read_lettered(line: &Line) -> Result<(usize, char, usize), LineFault>
+pub(crate) fn read_lettered(line: &Line) -> Result<(usize, char, usize), LineFault>
     ensures { result ≡ good_by capped_lettered (lettered line.now.number line.now.bytes.now) }
 {
     let (first, second, third) = line.three_columns()?;
@@ -29,7 +29,7 @@ pub fn read_lettered(line: &Line) -> Result<(usize, char, usize), LineFault>
 }
 
 // Two numbers and two letters.
-pub fn read_twice_lettered(line: &Line) -> Result<(usize, usize, char, char), LineFault>
+pub(crate) fn read_twice_lettered(line: &Line) -> Result<(usize, usize, char, char), LineFault>
     ensures { result ≡ good_by capped_twice (twice_lettered line.now.number line.now.bytes.now) }
 {
     let (first, second, third, fourth) = line.four_columns()?;

@@ -12,7 +12,7 @@ pub struct Line<'a> {
 }
 
 // How many bytes stand in front of the first `stop`; all of them where there is none.
-pub fn length_before(bytes: &[u8], stop: u8) -> usize
+pub(crate) fn length_before(bytes: &[u8], stop: u8) -> usize
     ensures { result ≡ before stop bytes.now }
 {
     for (i, b) in bytes.iter().enumerate() {
@@ -37,7 +37,7 @@ fn split_field<'a>(bytes: &'a [u8]) -> Option<(&'a [u8], &'a [u8])>
 
 impl<'a> Line<'a> {
     // The columns of a line that has three.
-    pub fn three_columns(&self) -> Result<(&'a [u8], &'a [u8], &'a [u8]), LineFault>
+    pub(crate) fn three_columns(&self) -> Result<(&'a [u8], &'a [u8], &'a [u8]), LineFault>
         ensures { MatchResult result (λ t. three self.now.number (fields self.now.bytes.now) ≡ Ok (t.0.now, t.1.now, t.2.now)) (λ e. three self.now.number (fields self.now.bytes.now) ≡ Err e) }
     {
         let fault = LineFault::Columns { line: self.number };
@@ -54,7 +54,7 @@ impl<'a> Line<'a> {
     }
 
     // The columns of a line that has four.
-    pub fn four_columns(&self) -> Result<(&'a [u8], &'a [u8], &'a [u8], &'a [u8]), LineFault>
+    pub(crate) fn four_columns(&self) -> Result<(&'a [u8], &'a [u8], &'a [u8], &'a [u8]), LineFault>
         ensures { MatchResult result (λ t. four self.now.number (fields self.now.bytes.now) ≡ Ok (t.0.now, t.1.now, t.2.now, t.3.now)) (λ e. four self.now.number (fields self.now.bytes.now) ≡ Err e) }
     {
         let number = self.number;

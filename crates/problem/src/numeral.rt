@@ -43,7 +43,7 @@ fn digits_value(digits: &[u8]) -> usize
 
 // The number that a column holds. One past the largest number of the machine, and so past every limit, is told as the
 // largest.
-pub fn read_number(line: usize, column: usize, bytes: &[u8]) -> Result<usize, NumberFault>
+pub(crate) fn read_number(line: usize, column: usize, bytes: &[u8]) -> Result<usize, NumberFault>
     ensures { result ≡ good_by capped (numeral line column bytes.now) }
 {
     match number_flaw(bytes) {
@@ -53,7 +53,7 @@ pub fn read_number(line: usize, column: usize, bytes: &[u8]) -> Result<usize, Nu
 }
 
 // The letter that a column holds.
-pub fn read_letter(line: usize, column: usize, bytes: &[u8]) -> Result<char, LineFault>
+pub(crate) fn read_letter(line: usize, column: usize, bytes: &[u8]) -> Result<char, LineFault>
     ensures { result ≡ letter line column bytes.now }
 {
     match bytes {

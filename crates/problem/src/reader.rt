@@ -64,7 +64,7 @@ fn after_table(table: Table) -> Wanted
 }
 
 impl Reader {
-    pub fn new(limit: usize) -> Reader
+    pub(crate) fn new(limit: usize) -> Reader
         requires { limit ≤ 1024 }
         ensures value { result ≡ start_of limit }
         ensures sound { Sound result }
@@ -159,7 +159,7 @@ impl Reader {
     }
 
     // One line more. The row of a line of the action table is told.
-    pub fn advance(&mut self, line: &Line) -> Result<Option<ActionRow>, LineFault>
+    pub(crate) fn advance(&mut self, line: &Line) -> Result<Option<ActionRow>, LineFault>
         requires { Sound self.old }
         ensures value { Moves (step self.old line.now.number line.now.bytes.now) self.new result }
         ensures sound { Sound self.new }

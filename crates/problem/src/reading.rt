@@ -49,7 +49,11 @@ fn place(row: Option<ActionRow>, places: &mut [Action])
 }
 
 // Reads a whole text, where so many actions are allowed, and adds the rows of the action table to the places.
-pub fn read_lines(text: &[u8], limit: usize, places: &mut [Action]) -> Result<Reader, LineFault>
+pub(crate) fn read_lines(
+    text: &[u8],
+    limit: usize,
+    places: &mut [Action],
+) -> Result<Reader, LineFault>
     requires { limit ≤ 1024 }
     ensures value { Ends (read_text limit places.old text.now) places.new result }
     ensures sound { IfOk result (λ s. Sound s × (s.limit ≡ limit)) }

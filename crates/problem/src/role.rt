@@ -11,7 +11,7 @@ pub enum Role {
 }
 
 impl Role {
-    pub fn from_char(c: char) -> Option<Role>
+    pub(crate) fn from_char(c: char) -> Option<Role>
         ensures value { result ≡ role_named c }
         ensures inverse { (k : Role) → c ≡ role_char k → result ≡ Some k }
     {

@@ -161,7 +161,7 @@ fn check_rule(
     })
 }
 
-pub fn read_atom_row(line: &Line, next: usize) -> Result<AtomRow, LineFault>
+pub(crate) fn read_atom_row(line: &Line, next: usize) -> Result<AtomRow, LineFault>
     requires { next ≤ 256 }
     ensures value { result ≡ atom_row next line.now.number line.now.bytes.now }
     ensures bound { OnOk result (next < 256) }
@@ -170,7 +170,11 @@ pub fn read_atom_row(line: &Line, next: usize) -> Result<AtomRow, LineFault>
     check_atom(line.number, next, atom, start, goal)
 }
 
-pub fn read_action_row(line: &Line, atoms: usize, limit: usize) -> Result<ActionRow, LineFault>
+pub(crate) fn read_action_row(
+    line: &Line,
+    atoms: usize,
+    limit: usize,
+) -> Result<ActionRow, LineFault>
     requires { (atoms ≤ 256) × (limit ≤ 1024) }
     ensures value { result ≡ action_row atoms limit line.now.number line.now.bytes.now }
     ensures bound { IfOk result (λ row. row.action < limit) }
@@ -179,7 +183,7 @@ pub fn read_action_row(line: &Line, atoms: usize, limit: usize) -> Result<Action
     check_action(line.number, atoms, limit, action, letter, atom)
 }
 
-pub fn read_feature_row(
+pub(crate) fn read_feature_row(
     line: &Line,
     atoms: usize,
     table: &FeatureTable,
@@ -192,7 +196,11 @@ pub fn read_feature_row(
     check_feature(line.number, atoms, table, feature, letter, atom)
 }
 
-pub fn read_rule_row(line: &Line, features: usize, table: &RuleTable) -> Result<RuleRow, LineFault>
+pub(crate) fn read_rule_row(
+    line: &Line,
+    features: usize,
+    table: &RuleTable,
+) -> Result<RuleRow, LineFault>
     requires { features ≤ 8 }
     ensures value { result ≡ rule_row features table.now line.now.number line.now.bytes.now }
     ensures bound { IfOk result (λ row. (row.rule < 16) × (row.feature < features)) }

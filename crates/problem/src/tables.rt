@@ -63,7 +63,7 @@ pub struct RuleTable {
 }
 
 impl AtomTable {
-    pub fn new() -> AtomTable
+    pub(crate) fn new() -> AtomTable
         ensures { result ≡ no_atoms }
     {
         AtomTable {
@@ -73,7 +73,7 @@ impl AtomTable {
         }
     }
 
-    pub fn add(&mut self, row: AtomRow)
+    pub(crate) fn add(&mut self, row: AtomRow)
         requires { self.old.count < 256 }
         ensures { self.new ≡ atom_added self.old row }
     {
@@ -103,7 +103,7 @@ impl ActionRow {
     }
 
     // Adds the atom to its action, where there is a place for it.
-    pub fn add_to(&self, actions: &mut [Action])
+    pub(crate) fn add_to(&self, actions: &mut [Action])
         ensures { actions.new ≡ action_added actions.old self.now }
     {
         if self.action < actions.len() {
@@ -113,7 +113,7 @@ impl ActionRow {
 }
 
 impl FeatureTable {
-    pub fn new() -> FeatureTable
+    pub(crate) fn new() -> FeatureTable
         ensures { result ≡ no_features }
     {
         FeatureTable {
@@ -127,7 +127,7 @@ impl FeatureTable {
     }
 
     // Whether the feature was named under another kind.
-    pub fn has_other_kind(&self, feature: usize, kind: Kind) -> bool
+    pub(crate) fn has_other_kind(&self, feature: usize, kind: Kind) -> bool
         ensures { result ≡ other_kind self.now feature kind }
     {
         feature < 8
@@ -135,7 +135,7 @@ impl FeatureTable {
             && self.features[feature].kind.to_char() != kind.to_char()
     }
 
-    pub fn add(&mut self, row: FeatureRow)
+    pub(crate) fn add(&mut self, row: FeatureRow)
         requires { row.feature < 8 }
         ensures { self.new ≡ feature_added self.old row }
     {
@@ -151,7 +151,7 @@ impl FeatureTable {
 }
 
 impl RuleTable {
-    pub fn new() -> RuleTable
+    pub(crate) fn new() -> RuleTable
         ensures { result ≡ no_rules }
     {
         RuleTable {
@@ -162,13 +162,13 @@ impl RuleTable {
     }
 
     // Whether the rule and the feature were named together.
-    pub fn has_both(&self, rule: usize, feature: usize) -> bool
+    pub(crate) fn has_both(&self, rule: usize, feature: usize) -> bool
         ensures { result ≡ both_named self.now rule feature }
     {
         rule < 16 && feature < 8 && self.named[rule][feature]
     }
 
-    pub fn add(&mut self, row: RuleRow)
+    pub(crate) fn add(&mut self, row: RuleRow)
         requires { (row.rule < 16) × (row.feature < 8) }
         ensures { self.new ≡ rule_added self.old row }
     {
