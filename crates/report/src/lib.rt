@@ -2,11 +2,15 @@
 // refusal alone.
 #![tactic(auto)]
 
+ghost use Rattle.std.specs.Prelude.{◌≡◌, ◌≤◌, length, take};
+ghost use Rattle.problem.specs.Problem.{held, limited_problem};
+ghost use Rattle.report.specs.Answered.{lists, unmade_row, SolvesParsed, Answers};
+
 use domain::atoms::AtomSet;
 use domain::refusal::Refusal;
 use domain::strips::{Action, Strips};
 use planner::node::Node;
-use problem::problem::{MAX_BYTES, read_limited};
+use problem::problem::{MAX_BYTES, Problem, read_limited};
 use solver::report::{Report, Row};
 use solver::solve::solve;
 use std::io;
@@ -21,7 +25,9 @@ pub const ROWS: usize = 1_539;
 const ACTIONS: usize = 64;
 
 // A row for a search that is not made yet.
-pub const fn blank_row() -> Row {
+pub const fn blank_row() -> Row
+    ensures { result ≡ unmade_row }
+{
     Row {
         number: 0,
         width: 0,
@@ -32,27 +38,41 @@ pub const fn blank_row() -> Row {
     }
 }
 
+// Solves a problem whose actions stand at the beginning of the table; the steps and the rows go into the lent lists.
+fn solve_problem(
+    problem: &Problem,
+    table: &[Action],
+    plan: &mut [usize],
+    rows: &mut [Row],
+) -> Result<Report, Refusal>
+    requires { problem.now.action_count ≤ length table.now }
+    ensures { SolvesParsed (held problem.now (take problem.now.action_count table.now)) problem.now.sketch (lists plan.old rows.old) (lists plan.new rows.new) result }
+{
+    let actions = &table[0..problem.action_count];
+    let model = Strips::new(problem.atoms, problem.start, problem.goal, actions)?;
+    let mut nodes = [Node {
+        state: AtomSet::empty(),
+        parent: 0,
+        action: 0,
+    }; PLACES];
+    let mut marks = [0u8; PLACES];
+    solve(model, problem.sketch, &mut nodes, &mut marks, plan, rows)
+}
+
 // Reads a problem text and solves it; the steps and the rows go into the lent lists.
-pub fn solve_text(text: &[u8], plan: &mut [usize], rows: &mut [Row]) -> Result<Report, Refusal> {
+pub fn solve_text(text: &[u8], plan: &mut [usize], rows: &mut [Row]) -> Result<Report, Refusal>
+    ensures { Answers (limited_problem 16384 64 text.now) (lists plan.old rows.old) (lists plan.new rows.new) result }
+{
     let none = AtomSet::empty();
     let mut table = [Action {
         preconditions: none,
         additions: none,
         deletions: none,
     }; ACTIONS];
-    let problem = match read_limited(text, MAX_BYTES, &mut table) {
-        Ok(problem) => problem,
-        Err(fault) => return Err(fault.refusal()),
-    };
-    let count = problem.action_count;
-    let model = Strips::new(problem.atoms, problem.start, problem.goal, &table[0..count])?;
-    let mut nodes = [Node {
-        state: none,
-        parent: 0,
-        action: 0,
-    }; PLACES];
-    let mut marks = [0u8; PLACES];
-    solve(model, problem.sketch, &mut nodes, &mut marks, plan, rows)
+    match read_limited(text, MAX_BYTES, &mut table) {
+        Ok(problem) => solve_problem(&problem, &table, plan, rows),
+        Err(fault) => Err(fault.refusal()),
+    }
 }
 
 // The searches and the plan, which stand at the beginning of their lists; or only the refusal.
