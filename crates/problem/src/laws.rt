@@ -1,4 +1,5 @@
 // What a user of the format may rely on, as theorems over texts.
+ghost use Rattle.std.specs.Prelude.{◌≡◌, true};
 ghost use Rattle.problem.specs.Examples.{Examples};
 ghost use Rattle.problem.specs.Laws.{LineNamed, FirstFaultDecides, SieveAlone};
 ghost use Rattle.problem.specs.Order.{OrderFree};
@@ -8,6 +9,7 @@ ghost use Rattle.problem.specs.Written.{WhollyAccounted};
 // inside the tables of actions, features and rules does not matter; a good text is the one that is written from its
 // rows, so that no byte of it is ignored; and behind the last line only the sieve refuses.
 pub fn laws_hold() -> bool
+    ensures answer { result ≡ true }
     ensures named { LineNamed }
     ensures first { FirstFaultDecides }
     ensures order { OrderFree }
@@ -19,7 +21,8 @@ pub fn laws_hold() -> bool
 
 // The examples of `specs/Examples.antt`.
 pub fn examples_hold() -> bool
-    ensures { Examples }
+    ensures answer { result ≡ true }
+    ensures examples { Examples }
 {
     true
 }

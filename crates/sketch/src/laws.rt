@@ -1,4 +1,5 @@
 // What the sieve is for, as theorems over valuations: no model is in sight here.
+ghost use Rattle.std.specs.Prelude.{◌≡◌, true};
 ghost use Rattle.sketch.specs.Examples.{Examples};
 ghost use Rattle.sketch.specs.Laws.{AcceptanceSound, OrderFree, EntriesSound};
 ghost use Rattle.sketch.specs.Sketch.{StatesApart};
@@ -8,6 +9,7 @@ ghost use Rattle.sketch.specs.Words.{AcceptsDecided};
 // entry is sound for the pairs that it accepts; along a sketch's rules no two states have equal values; and what a rule
 // accepts is what the plain words say.
 pub fn laws_hold() -> bool
+    ensures answer { result ≡ true }
     ensures acceptance { AcceptanceSound }
     ensures order { OrderFree }
     ensures entries { EntriesSound }
@@ -19,7 +21,8 @@ pub fn laws_hold() -> bool
 
 // The examples of `specs/Examples.antt`.
 pub fn examples_hold() -> bool
-    ensures { Examples }
+    ensures answer { result ≡ true }
+    ensures examples { Examples }
 {
     true
 }

@@ -1,3 +1,4 @@
+use Rattle.std.proofs.Common.{refl}
 use Rattle.sketch.proofs.Cycle.{acceptance_sound}
 use Rattle.sketch.proofs.Plain.{accepts_decided}
 use Rattle.sketch.proofs.Sound.{entries_sound}
@@ -6,4 +7,4 @@ use Rattle.sketch.proofs.Strikes.{order_free}
 use Rattle.sketch.proofs.laws.laws_hold.Goals as goal
 
 pub returns : goal.returns
-returns c = record { acceptance = acceptance_sound; order = order_free; entries = entries_sound; states = states_apart; words = accepts_decided }
+returns c = record { answer = refl; acceptance = acceptance_sound; order = order_free; entries = entries_sound; states = states_apart; words = accepts_decided }
