@@ -1,14 +1,24 @@
-// A lent list copied into an array of its own.
-ghost use Rattle.std.specs.Prelude.{◌≡◌};
-ghost use Rattle.sketch.specs.Held.{held};
+// A lent list held in an array of its own.
+ghost use Rattle.std.specs.Prelude.{◌≡◌, ◌≤◌, length};
 
-// The first N of the items, with `blank` behind them where there are fewer.
-pub fn hold_first<T: Copy, const N: usize>(items: &[T], blank: T) -> [T; N]
-    ensures { result ≡ held N blank items.now }
-{
-    let mut copy = [blank; N];
-    for i in 0..items.len().min(N) {
-        copy[i] = items[i];
-    }
-    copy
+pub use crate::held::copy::hold_first;
+use std::alloc::AllocError;
+
+mod copy;
+mod list;
+
+// At most N items, which stand at the beginning of the array.
+pub struct Held<T, const N: usize> {
+    items: [T; N],
+    count: usize,
+    ghost few: { count ≤ N },
+    ghost full: { length items ≡ N },
 }
+
+impl<T: Copy, const N: usize> Clone for Held<T, N> {
+    fn clone(&self) -> Result<Held<T, N>, AllocError> {
+        Ok(*self)
+    }
+}
+
+impl<T: Copy, const N: usize> Copy for Held<T, N> {}

@@ -1,6 +1,6 @@
 use Rattle.std.proofs.Common.{arith}
 use Rattle.sketch.proofs.Copied.{copied_more, copied_all}
-use Rattle.sketch.proofs.held.hold_first.Goals as goal
+use Rattle.sketch.proofs.held.copy.hold_first.Goals as goal
 
 pub loop-i-preserved : goal.loop-i-preserved
 loop-i-preserved g c =
