@@ -11,12 +11,32 @@ pub struct AtomSet {
     words: [u64; 4],
 }
 
+impl Default for AtomSet {
+    ghost is_default = { λ set. set ≡ none };
+
+    // The set with no members.
+    fn default() -> AtomSet {
+        AtomSet::empty()
+    }
+}
+
 impl AtomSet {
     pub const fn empty() -> AtomSet
         ensures value { result ≡ none }
         ensures membership { (a : ℕ) → has result a ≡ false }
     {
         AtomSet { words: [0; 4] }
+    }
+
+    // The set of the listed atoms.
+    pub fn of(atoms: &[u8]) -> AtomSet
+        ensures { (a : ℕ) → has result a ≡ among atoms.now a }
+    {
+        let mut set = AtomSet::empty();
+        for atom in atoms {
+            set.insert(*atom);
+        }
+        set
     }
 
     pub fn contains(&self, atom: u8) -> bool

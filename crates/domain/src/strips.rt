@@ -3,8 +3,8 @@ use crate::atoms::AtomSet;
 
 pub mod problem;
 
-// What an action needs, makes true and makes false.
-#[derive(Clone, Copy, PartialEq, Eq, Debug)]
+// What an action needs, makes true and makes false. The default one needs, adds and deletes nothing.
+#[derive(Clone, Copy, Default, PartialEq, Eq, Debug)]
 pub struct Action {
     pub preconditions: AtomSet,
     pub additions: AtomSet,

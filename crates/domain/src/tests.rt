@@ -42,6 +42,14 @@ fn atoms_go_in_and_out(rt: HostRuntime) {
 }
 
 #[test]
+fn a_set_of_listed_atoms(rt: HostRuntime) {
+    let set = AtomSet::of(&[200, 3, 200]);
+    assert!(rt; set.contains(3) && set.contains(200) && set.count() == 2);
+    assert_eq!(rt; AtomSet::of(&[]), AtomSet::default());
+    assert_eq!(rt; Action::default(), idle());
+}
+
+#[test]
 fn below_a_bound(rt: HostRuntime) {
     let set = set_of(63, 255);
     assert!(rt; set.below(0).is_empty());

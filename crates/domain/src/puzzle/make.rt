@@ -1,6 +1,5 @@
 // How boards and puzzles are made.
-ghost use Rattle.std.specs.Prelude.{◌≡◌, ℕ, ◌<◌, take, Some, None, MatchResult, nat_lt};
-ghost use Rattle.domain.specs.Atoms.{has};
+ghost use Rattle.std.specs.Prelude.{◌≡◌, ◌<◌, take, Some, None, MatchResult, nat_lt};
 ghost use Rattle.domain.specs.Boards.{fresh, first_stale, board_fault, BoardMade};
 ghost use Rattle.domain.specs.Model.{among};
 ghost use Rattle.domain.specs.PuzzleMade.{first_past, PuzzleMade};
@@ -49,17 +48,6 @@ fn check_pieces(pieces: &[u8; 9]) -> Result<(), Refusal>
     Ok(())
 }
 
-// The set of the listed atoms.
-fn gathered(atoms: &[u8]) -> AtomSet
-    ensures { (a : ℕ) → has result a ≡ among atoms.now a }
-{
-    let mut set = AtomSet::empty();
-    for atom in atoms {
-        set.insert(*atom);
-    }
-    set
-}
-
 fn is_atom(number: u8) -> bool
     ensures { result ≡ nat_lt number 81 }
 {
@@ -104,7 +92,7 @@ impl Puzzle {
         }
         Ok(Puzzle {
             start,
-            goal: gathered(goal),
+            goal: AtomSet::of(goal),
         })
     }
 }

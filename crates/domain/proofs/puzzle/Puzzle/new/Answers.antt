@@ -7,4 +7,4 @@ pub returns : goal.returns
 returns c =
     let goal = c.args.goal.now in
     let none : goal_fault goal ≡ None = search rules in
-    (none, same_puzzle c.args.start c.gathered.result goal c.gathered.ensures)
+    (none, same_puzzle c.args.start c.of.result goal c.of.ensures)

@@ -2,7 +2,7 @@ use Rattle.std.proofs.Common.{ℕ, Bool, ◌||◌, eqb, List, get_or, ap, ◌∙
 use Rattle.std.proofs.lemmas.List.{take_all}
 use Rattle.domain.specs.Model.{among}
 use Rattle.domain.proofs.Gathered.{among_more}
-use Rattle.domain.proofs.puzzle.make.gathered.Goals as goal
+use Rattle.domain.proofs.atoms.AtomSet.of.Goals as goal
 
 pub loop-atom-preserved : goal.loop-atom-preserved
 loop-atom-preserved c = λ a.
