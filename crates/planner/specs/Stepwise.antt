@@ -1,5 +1,5 @@
 -- A search under way, that is begun once and advanced step by step: what each call replies and leaves. Assumes nothing.
-use Rattle.std.specs.Prelude.{ℕ, Bool, cond, ◌||◌, List, None, Ok, Err, Option, Result, nat_lt}
+use Rattle.std.specs.Prelude.{◌≡◌, ℕ, ◌≤◌, Bool, true, cond, ◌||◌, List, None, Ok, Err, Option, Result, nat_lt}
 use Rattle.domain.specs.Model.{Meaning}
 use Rattle.domain.specs.declared.refusal.Refusal.{Refusal}
 use Rattle.domain.specs.declared.refusal.Refusal.TheVariants.{FewPlaces}
@@ -7,10 +7,10 @@ use Rattle.planner.specs.declared.node.Link.{Link}
 use Rattle.planner.specs.declared.node.Node.{Node}
 use Rattle.planner.specs.declared.node.Outcome.{Outcome}
 use Rattle.planner.specs.declared.node.Outcome.TheVariants.{Open}
+use Rattle.planner.specs.declared.node.Progress.{Progress}
 use Rattle.planner.specs.declared.node.Reply.{Reply}
-use Rattle.planner.specs.declared.stepwise.Search.{Search}
 use Rattle.planner.specs.Search.{Snapshot, task, advanced}
-use Rattle.planner.specs.Whole.{outcome_of, reply_of}
+use Rattle.planner.specs.Whole.{outcome_of, reply_of, linked}
 
 -- Where a search stands: its measure and how many keys that has; how many states are expanded and kept, and the link that
 -- met a target, once one did; and what the last advance replied.
@@ -22,16 +22,17 @@ pub record UnderWay (M : Type 0) : Type 0 where
   pub met : Option Link
   pub outcome : Outcome
 
--- where a search stands, without the facts of its type
-abbrev pub standing : {M : Type 0} → Search M → UnderWay M
-standing s = record {
-  measure = s.measure;
-  count = s.count;
-  expanded = s.progress.expanded;
-  kept = s.progress.kept;
-  met = s.progress.met;
-  outcome = s.outcome;
-}
+-- where a search by the measure m of n keys stands, by its progress and by what its last advance replied
+abbrev pub standing : {M : Type 0} → M → ℕ → Progress → Outcome → UnderWay M
+standing m n p outcome =
+    record { measure = m; count = n; expanded = p.expanded; kept = p.kept; met = p.met; outcome = outcome }
+
+-- what holds of the progress of every search by n keys
+pub record Bounds (n : ℕ) (p : Progress) : Type 0 where
+  pub few : n ≤ 65536
+  pub kept : p.kept ≤ n
+  pub expanded : p.expanded ≤ n
+  pub within : linked n p.met ≡ true
 
 -- a search by the measure m of n keys that has kept its start, which waits
 abbrev pub started : {M : Type 0} → M → ℕ → UnderWay M

@@ -1,9 +1,7 @@
 // A search under way: it is begun once and then advanced by as many expansions at a time as the caller likes. Its
 // nodes and marks are in the caller's memory.
-ghost use Rattle.std.specs.Prelude.{◌≡◌, ◌≤◌, true};
-ghost use Rattle.planner.specs.Whole.{linked};
-
 use crate::node::{Outcome, Progress};
+use std::marker::Model;
 
 pub mod drive;
 
@@ -14,8 +12,14 @@ pub struct Search<M> {
     count: usize,
     progress: Progress,
     outcome: Outcome,
-    ghost few: { count ≤ 65536 },
-    ghost kept: { progress.kept ≤ count },
-    ghost expanded: { progress.expanded ≤ count },
-    ghost within: { linked count progress.met ≡ true },
+}
+
+impl<M> Model for Search<M> {
+    ghost use Rattle.planner.specs.Stepwise.{UnderWay, standing, Bounds};
+
+    ghost Value = { UnderWay M };
+
+    ghost view = { λ s. standing s.measure s.count s.progress s.outcome };
+
+    ghost invariant = { λ s. Bounds s.count s.progress };
 }

@@ -2,7 +2,7 @@
 ghost use Rattle.std.specs.Prelude.{◌≡◌, ◌≤◌, not, length, is_ok, if◌then◌else◌, Ok, Err};
 ghost use Rattle.domain.specs.declared.refusal.Refusal.TheVariants.{FewPlaces};
 ghost use Rattle.planner.specs.Search.{task, begun};
-ghost use Rattle.planner.specs.Stepwise.{standing, started, lacks, worked_on, moved_on, advance_reply};
+ghost use Rattle.planner.specs.Stepwise.{started, lacks, worked_on, moved_on, advance_reply};
 
 use crate::node::{Node, Outcome, Reply};
 use crate::search::{advance, begin};
@@ -28,7 +28,7 @@ impl<M: Measure + Drop> Search<M> {
         nodes: &mut [Node<D::State>],
         marks: &mut [u8],
     ) -> Result<Search<M>, Refusal>
-        ensures reply { elim result [ Ok s ↦ standing s ≡ started measure (M.total measure) | Err e ↦ e ≡ FewPlaces ] }
+        ensures reply { elim result [ Ok s ↦ s ≡ started measure (M.total measure) | Err e ↦ e ≡ FewPlaces ] }
         ensures refused { is_ok result ≡ not (lacks (M.total measure) (length nodes.old) (length marks.old)) }
         ensures nodes { nodes.new ≡ (if lacks (M.total measure) (length nodes.old) (length marks.old) then nodes.old else (begun (task (D.meaning model.now) (M.keys measure) (M.total measure)) nodes.old marks.old).nodes) }
         ensures marks { marks.new ≡ (if lacks (M.total measure) (length nodes.old) (length marks.old) then marks.old else (begun (task (D.meaning model.now) (M.keys measure) (M.total measure)) nodes.old marks.old).marks) }
@@ -55,10 +55,10 @@ impl<M: Measure + Drop> Search<M> {
         marks: &mut [u8],
         budget: usize,
     ) -> Result<Reply, Refusal>
-        ensures reply { result ≡ advance_reply (worked_on (D.meaning model.now) M.keys budget (standing self.old) nodes.old marks.old) (lacks self.old.count (length nodes.old) (length marks.old)) }
-        ensures search { standing self.new ≡ (if lacks self.old.count (length nodes.old) (length marks.old) then standing self.old else moved_on (standing self.old) (worked_on (D.meaning model.now) M.keys budget (standing self.old) nodes.old marks.old)) }
-        ensures nodes { nodes.new ≡ (if lacks self.old.count (length nodes.old) (length marks.old) then nodes.old else (worked_on (D.meaning model.now) M.keys budget (standing self.old) nodes.old marks.old).nodes) }
-        ensures marks { marks.new ≡ (if lacks self.old.count (length nodes.old) (length marks.old) then marks.old else (worked_on (D.meaning model.now) M.keys budget (standing self.old) nodes.old marks.old).marks) }
+        ensures reply { result ≡ advance_reply (worked_on (D.meaning model.now) M.keys budget self.old nodes.old marks.old) (lacks self.old.count (length nodes.old) (length marks.old)) }
+        ensures search { self.new ≡ (if lacks self.old.count (length nodes.old) (length marks.old) then self.old else moved_on self.old (worked_on (D.meaning model.now) M.keys budget self.old nodes.old marks.old)) }
+        ensures nodes { nodes.new ≡ (if lacks self.old.count (length nodes.old) (length marks.old) then nodes.old else (worked_on (D.meaning model.now) M.keys budget self.old nodes.old marks.old).nodes) }
+        ensures marks { marks.new ≡ (if lacks self.old.count (length nodes.old) (length marks.old) then marks.old else (worked_on (D.meaning model.now) M.keys budget self.old nodes.old marks.old).marks) }
     {
         let count = self.count;
         if are_few(count, nodes, marks) {
@@ -89,7 +89,7 @@ impl<M: Measure + Drop> Search<M> {
 
     // How many states are expanded.
     pub fn expanded(&self) -> usize
-        ensures value { result ≡ self.now.progress.expanded }
+        ensures value { result ≡ self.now.expanded }
         ensures small { result ≤ 65536 }
     {
         self.progress.expanded
