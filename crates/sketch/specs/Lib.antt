@@ -6,6 +6,7 @@ pub mod Feature
 pub mod Held
 pub mod Kind
 pub mod Laws
+pub mod Letter
 pub mod Rule
 pub mod Sieve
 pub mod Sketch

@@ -1,10 +1,11 @@
 // A feature: a number read off the true atoms of a state.
-ghost use Rattle.std.specs.Prelude.{◌≡◌, ◌≤◌, length, Some};
+ghost use Rattle.std.specs.Prelude.{◌≡◌, ◌≤◌, length};
 ghost use Rattle.domain.specs.Atoms.{members};
 ghost use Rattle.sketch.specs.Feature.{true_count, false_count, value_of, top_of, unnamed_feature};
 ghost use Rattle.sketch.specs.Kind.{kind_char, kind_named, boolean};
-ghost use Rattle.sketch.specs.declared.feature.Kind.{Kind};
+ghost use Rattle.sketch.specs.Letter.{Reads, Writes};
 
+use crate::letter::UnknownLetter;
 use domain::atoms::AtomSet;
 
 #[derive(Clone, Copy, PartialEq, Eq, Debug)]
@@ -17,30 +18,34 @@ pub enum Kind {
     FalseCount,
 }
 
-impl Kind {
-    pub fn from_char(c: char) -> Option<Kind>
-        ensures value { result ≡ kind_named c }
-        ensures inverse { (k : Kind) → c ≡ kind_char k → result ≡ Some k }
-    {
-        match c {
-            'b' => Some(Kind::Boolean),
-            't' => Some(Kind::TrueCount),
-            'f' => Some(Kind::FalseCount),
-            _ => None,
+impl TryFrom<char> for Kind {
+    type Error = UnknownLetter;
+
+    ghost try_from_gives = { Reads kind_char kind_named };
+
+    fn try_from(letter: char) -> Result<Kind, UnknownLetter> {
+        match letter {
+            'b' => Ok(Kind::Boolean),
+            't' => Ok(Kind::TrueCount),
+            'f' => Ok(Kind::FalseCount),
+            _ => Err(UnknownLetter),
         }
     }
+}
 
-    pub fn to_char(self) -> char
-        ensures value { result ≡ kind_char self }
-        ensures inverse { kind_named result ≡ Some self }
-    {
-        match self {
+impl From<Kind> for char {
+    ghost from_gives = { Writes kind_char kind_named };
+
+    fn from(kind: Kind) -> char {
+        match kind {
             Kind::Boolean => 'b',
             Kind::TrueCount => 't',
             Kind::FalseCount => 'f',
         }
     }
+}
 
+impl Kind {
     pub fn is_boolean(self) -> bool
         ensures { result ≡ boolean self }
     {

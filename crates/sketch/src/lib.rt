@@ -4,6 +4,7 @@
 pub mod feature;
 pub mod held;
 pub mod laws;
+pub mod letter;
 pub mod rule;
 mod sieve;
 pub mod sketch;

@@ -1,12 +1,12 @@
 // Rules: of each feature a condition on its value before a step, and an effect of the step on it.
-ghost use Rattle.std.specs.Prelude.{◌≡◌, Some};
+ghost use Rattle.std.specs.Prelude.{◌≡◌};
 ghost use Rattle.sketch.specs.Entry.{condition_char, condition_named, effect_char, effect_named};
+ghost use Rattle.sketch.specs.Letter.{Reads, Writes};
 ghost use Rattle.sketch.specs.Rule.{holds, follows, entry_accepts, silent, unnamed};
 ghost use Rattle.sketch.specs.Sieve.{surely_lowers, surely_raises, may_raise, may_lower, one_way};
-ghost use Rattle.sketch.specs.declared.rule.Condition.{Condition};
-ghost use Rattle.sketch.specs.declared.rule.Effect.{Effect};
 
 use crate::feature::Kind;
+use crate::letter::UnknownLetter;
 
 #[derive(Clone, Copy, PartialEq, Eq, Debug)]
 pub enum Condition {
@@ -43,19 +43,34 @@ pub struct Rule {
     pub entries: [Entry; 8],
 }
 
-impl Condition {
-    pub fn from_char(c: char) -> Option<Condition>
-        ensures value { result ≡ condition_named c }
-        ensures inverse { (k : Condition) → c ≡ condition_char k → result ≡ Some k }
-    {
-        match c {
-            '.' => Some(Condition::Any),
-            '+' => Some(Condition::Positive),
-            '0' => Some(Condition::Zero),
-            _ => None,
+impl TryFrom<char> for Condition {
+    type Error = UnknownLetter;
+
+    ghost try_from_gives = { Reads condition_char condition_named };
+
+    fn try_from(letter: char) -> Result<Condition, UnknownLetter> {
+        match letter {
+            '.' => Ok(Condition::Any),
+            '+' => Ok(Condition::Positive),
+            '0' => Ok(Condition::Zero),
+            _ => Err(UnknownLetter),
         }
     }
+}
 
+impl From<Condition> for char {
+    ghost from_gives = { Writes condition_char condition_named };
+
+    fn from(condition: Condition) -> char {
+        match condition {
+            Condition::Any => '.',
+            Condition::Positive => '+',
+            Condition::Zero => '0',
+        }
+    }
+}
+
+impl Condition {
     pub fn holds(self, value: usize) -> bool
         ensures { result ≡ holds self value }
     {
@@ -65,33 +80,38 @@ impl Condition {
             Condition::Zero => value == 0,
         }
     }
+}
 
-    pub fn to_char(self) -> char
-        ensures value { result ≡ condition_char self }
-        ensures inverse { condition_named result ≡ Some self }
-    {
-        match self {
-            Condition::Any => '.',
-            Condition::Positive => '+',
-            Condition::Zero => '0',
+impl TryFrom<char> for Effect {
+    type Error = UnknownLetter;
+
+    ghost try_from_gives = { Reads effect_char effect_named };
+
+    fn try_from(letter: char) -> Result<Effect, UnknownLetter> {
+        match letter {
+            '=' => Ok(Effect::Same),
+            '?' => Ok(Effect::Free),
+            '+' => Ok(Effect::Up),
+            '-' => Ok(Effect::Down),
+            _ => Err(UnknownLetter),
+        }
+    }
+}
+
+impl From<Effect> for char {
+    ghost from_gives = { Writes effect_char effect_named };
+
+    fn from(effect: Effect) -> char {
+        match effect {
+            Effect::Same => '=',
+            Effect::Free => '?',
+            Effect::Up => '+',
+            Effect::Down => '-',
         }
     }
 }
 
 impl Effect {
-    pub fn from_char(c: char) -> Option<Effect>
-        ensures value { result ≡ effect_named c }
-        ensures inverse { (k : Effect) → c ≡ effect_char k → result ≡ Some k }
-    {
-        match c {
-            '=' => Some(Effect::Same),
-            '?' => Some(Effect::Free),
-            '+' => Some(Effect::Up),
-            '-' => Some(Effect::Down),
-            _ => None,
-        }
-    }
-
     pub fn follows(self, kind: Kind, before: usize, after: usize) -> bool
         ensures { result ≡ follows kind self before after }
     {
@@ -102,18 +122,6 @@ impl Effect {
             Effect::Up => after > before,
             Effect::Down if kind.is_boolean() => after == 0,
             Effect::Down => after < before,
-        }
-    }
-
-    pub fn to_char(self) -> char
-        ensures value { result ≡ effect_char self }
-        ensures inverse { effect_named result ≡ Some self }
-    {
-        match self {
-            Effect::Same => '=',
-            Effect::Free => '?',
-            Effect::Up => '+',
-            Effect::Down => '-',
         }
     }
 }

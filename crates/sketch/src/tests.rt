@@ -1,5 +1,6 @@
 // Examples: what the sieve leaves, what is refused, and what features and sketches tell of states.
 use crate::feature::{Feature, Kind};
+use crate::letter::UnknownLetter;
 use crate::rule::{Condition, Effect, Entry, Rule};
 use crate::sketch::Sketch;
 use domain::atoms::AtomSet;
@@ -18,8 +19,8 @@ fn rule(whens: [char; 4], thens: [char; 4]) -> Option<Rule> {
     let mut rule = Rule::blank();
     for f in 0..4 {
         rule.entries[f] = Entry {
-            when: Condition::from_char(whens[f])?,
-            then: Effect::from_char(thens[f])?,
+            when: Condition::try_from(whens[f]).ok()?,
+            then: Effect::try_from(thens[f]).ok()?,
         };
     }
     Some(rule)
@@ -105,8 +106,8 @@ fn values_and_steps(rt: HostRuntime) -> Result<(), Fail> {
 
 #[test]
 fn characters(rt: HostRuntime) {
-    assert_eq!(rt; Kind::from_char('t'), Some(Kind::TrueCount));
-    assert_eq!(rt; Kind::from_char('x'), None);
-    assert_eq!(rt; Effect::Free.to_char(), '?');
-    assert_eq!(rt; Condition::from_char('0'), Some(Condition::Zero));
+    assert_eq!(rt; Kind::try_from('t'), Ok(Kind::TrueCount));
+    assert_eq!(rt; Kind::try_from('x'), Err(UnknownLetter));
+    assert_eq!(rt; char::from(Effect::Free), '?');
+    assert_eq!(rt; Condition::try_from('0'), Ok(Condition::Zero));
 }
