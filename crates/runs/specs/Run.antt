@@ -23,10 +23,10 @@ abbrev pub under : {M : Type 0} → Option (Search M) → Option (UnderWay M)
 under None = None
 under (Some s) = Some (standing s)
 
--- where a run stands, without the facts of its type; `meaning` is what its model means
-abbrev pub view : {D M S : Type 0} {bound : Ghosts D S} → (D → Meaning S) → Run D M S bound → View S M
-view meaning r = record {
-  problem = meaning r.model;
+-- where a run stands, without the facts of its type; its problem is what its model means
+abbrev pub view : {D M S : Type 0} {bound : Ghosts D S} → Run D M S bound → View S M
+view {bound = B} r = record {
+  problem = B.meaning r.model;
   sketch = r.sketch;
   current = r.current;
   effort = r.effort;

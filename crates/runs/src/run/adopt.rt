@@ -26,8 +26,8 @@ impl<D: StateModel, M: Measure + Drop> Run<D, M> {
         nodes: &[Node<D::State>],
         plan: &mut [usize],
     ) -> Result<usize, Refusal>
-        ensures reply { result ≡ told (segment_fault (view D.meaning self.now) way.now count nodes.now (length plan.old)) way.now.length }
-        ensures after { plan.new ≡ unless (segment_fault (view D.meaning self.now) way.now count nodes.now (length plan.old)) plan.old (placed plan.old self.now.length (actions_of nodes.now way.now)) }
+        ensures reply { result ≡ told (segment_fault (view self.now) way.now count nodes.now (length plan.old)) way.now.length }
+        ensures after { plan.new ≡ unless (segment_fault (view self.now) way.now count nodes.now (length plan.old)) plan.old (placed plan.old self.now.length (actions_of nodes.now way.now)) }
     {
         if nodes.len() < count {
             return Err(Refusal::FewPlaces);
@@ -48,8 +48,8 @@ impl<D: StateModel, M: Measure + Drop> Run<D, M> {
         nodes: &[Node<D::State>],
         plan: &mut [usize],
     ) -> Result<usize, Refusal>
-        ensures reply { result ≡ told (adopt_fault (view D.meaning self.now) number nodes.now (length plan.old)) (way_length (found_way (view D.meaning self.now).opened)) }
-        ensures after { plan.new ≡ unless (adopt_fault (view D.meaning self.now) number nodes.now (length plan.old)) plan.old (placed plan.old self.now.length (way_actions nodes.now (found_way (view D.meaning self.now).opened))) }
+        ensures reply { result ≡ told (adopt_fault (view self.now) number nodes.now (length plan.old)) (way_length (found_way (view self.now).opened)) }
+        ensures after { plan.new ≡ unless (adopt_fault (view self.now) number nodes.now (length plan.old)) plan.old (placed plan.old self.now.length (way_actions nodes.now (found_way (view self.now).opened))) }
     {
         if !self.is_latest(Phase::Met, number) {
             return Err(Refusal::ForeignClaim);
@@ -67,7 +67,7 @@ impl<D: StateModel, M: Measure + Drop> Run<D, M> {
     // Goes on from the end of a segment, and ends the open search.
     fn take_up(&mut self, segment: &[usize])
         requires { self.old.length + length segment.now ≤ 4096 }
-        ensures { view D.meaning self.new ≡ adopted_run (view D.meaning self.old) segment.now (length segment.now) }
+        ensures { view self.new ≡ adopted_run (view self.old) segment.now (length segment.now) }
     {
         self.current = follow(&self.model, self.current, segment);
         self.length += segment.len();
@@ -82,9 +82,9 @@ impl<D: StateModel, M: Measure + Drop> Run<D, M> {
         nodes: &[Node<D::State>],
         plan: &mut [usize],
     ) -> Result<usize, Refused<Find>>
-        ensures reply { result ≡ handed (adopt_fault (view D.meaning self.old) find.number nodes.now (length plan.old)) find (way_length (found_way (view D.meaning self.old).opened)) }
-        ensures run { view D.meaning self.new ≡ unless (adopt_fault (view D.meaning self.old) find.number nodes.now (length plan.old)) (view D.meaning self.old) (adopted_run (view D.meaning self.old) (way_actions nodes.now (found_way (view D.meaning self.old).opened)) (way_length (found_way (view D.meaning self.old).opened))) }
-        ensures plan { plan.new ≡ unless (adopt_fault (view D.meaning self.old) find.number nodes.now (length plan.old)) plan.old (placed plan.old self.old.length (way_actions nodes.now (found_way (view D.meaning self.old).opened))) }
+        ensures reply { result ≡ handed (adopt_fault (view self.old) find.number nodes.now (length plan.old)) find (way_length (found_way (view self.old).opened)) }
+        ensures run { view self.new ≡ unless (adopt_fault (view self.old) find.number nodes.now (length plan.old)) (view self.old) (adopted_run (view self.old) (way_actions nodes.now (found_way (view self.old).opened)) (way_length (found_way (view self.old).opened))) }
+        ensures plan { plan.new ≡ unless (adopt_fault (view self.old) find.number nodes.now (length plan.old)) plan.old (placed plan.old self.old.length (way_actions nodes.now (found_way (view self.old).opened))) }
     {
         match self.write_found(find.number, nodes, plan) {
             Ok(length) => {

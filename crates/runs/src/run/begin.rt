@@ -24,10 +24,10 @@ impl<D: StateModel, M: Measure + Drop> Run<D, M> {
         nodes: &mut [Node<D::State>],
         marks: &mut [u8],
     ) -> Result<Ticket, Refusal>
-        ensures reply { result ≡ told (begin_fault (view D.meaning self.old) (M.total measure) (length nodes.old) (length marks.old)) (begun_ticket (view D.meaning self.old)) }
-        ensures run { view D.meaning self.new ≡ unless (begin_fault (view D.meaning self.old) (M.total measure) (length nodes.old) (length marks.old)) (view D.meaning self.old) (begun_run (view D.meaning self.old) measure (M.total measure)) }
-        ensures nodes { nodes.new ≡ unless (begin_fault (view D.meaning self.old) (M.total measure) (length nodes.old) (length marks.old)) nodes.old (begun (task (subgoal (view D.meaning self.old)) (M.keys measure) (M.total measure)) nodes.old marks.old).nodes }
-        ensures marks { marks.new ≡ unless (begin_fault (view D.meaning self.old) (M.total measure) (length nodes.old) (length marks.old)) marks.old (begun (task (subgoal (view D.meaning self.old)) (M.keys measure) (M.total measure)) nodes.old marks.old).marks }
+        ensures reply { result ≡ told (begin_fault (view self.old) (M.total measure) (length nodes.old) (length marks.old)) (begun_ticket (view self.old)) }
+        ensures run { view self.new ≡ unless (begin_fault (view self.old) (M.total measure) (length nodes.old) (length marks.old)) (view self.old) (begun_run (view self.old) measure (M.total measure)) }
+        ensures nodes { nodes.new ≡ unless (begin_fault (view self.old) (M.total measure) (length nodes.old) (length marks.old)) nodes.old (begun (task (subgoal (view self.old)) (M.keys measure) (M.total measure)) nodes.old marks.old).nodes }
+        ensures marks { marks.new ≡ unless (begin_fault (view self.old) (M.total measure) (length nodes.old) (length marks.old)) marks.old (begun (task (subgoal (view self.old)) (M.keys measure) (M.total measure)) nodes.old marks.old).marks }
     {
         if self.open.is_some() {
             return Err(Refusal::SearchOpen);

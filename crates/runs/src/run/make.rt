@@ -11,8 +11,8 @@ use sketch::sketch::Sketch;
 impl<D: StateModel, M: Measure + Drop> Run<D, M> {
     // A run from the model's start. After every list of calls on it the findings hold.
     pub fn new(model: D, sketch: Sketch) -> Run<D, M>
-        ensures value { view D.meaning result ≡ fresh (D.meaning model) sketch }
-        ensures findings { Always M.keys M.total (view D.meaning result) }
+        ensures value { view result ≡ fresh (D.meaning model) sketch }
+        ensures findings { Always M.keys M.total (view result) }
     {
         let current = model.start();
         Run {

@@ -39,7 +39,7 @@ fn give(outcome: Outcome, number: usize) -> Progressed
 impl<D: StateModel, M: Measure + Drop> Run<D, M> {
     // Whether a claim of this kind and number is of the open search.
     pub(super) fn is_latest(&self, kind: Phase, number: usize) -> bool
-        ensures { result ≡ claims (view D.meaning self.now).opened self.now.searches kind number }
+        ensures { result ≡ claims (view self.now).opened self.now.searches kind number }
     {
         match &self.open {
             Some(search) => number == self.searches && fits(kind, search.outcome()),
@@ -55,10 +55,10 @@ impl<D: StateModel, M: Measure + Drop> Run<D, M> {
         nodes: &mut [Node<D::State>],
         marks: &mut [u8],
     ) -> Result<Reply, Refusal>
-        ensures reply { result ≡ told (work_fault (view D.meaning self.old) number (length nodes.old) (length marks.old)) (reply_of (worked (view D.meaning self.old) M.keys budget nodes.old marks.old)) }
-        ensures run { view D.meaning self.new ≡ unless (work_fault (view D.meaning self.old) number (length nodes.old) (length marks.old)) (view D.meaning self.old) (worked_run (view D.meaning self.old) (worked (view D.meaning self.old) M.keys budget nodes.old marks.old)) }
-        ensures nodes { nodes.new ≡ unless (work_fault (view D.meaning self.old) number (length nodes.old) (length marks.old)) nodes.old (worked (view D.meaning self.old) M.keys budget nodes.old marks.old).nodes }
-        ensures marks { marks.new ≡ unless (work_fault (view D.meaning self.old) number (length nodes.old) (length marks.old)) marks.old (worked (view D.meaning self.old) M.keys budget nodes.old marks.old).marks }
+        ensures reply { result ≡ told (work_fault (view self.old) number (length nodes.old) (length marks.old)) (reply_of (worked (view self.old) M.keys budget nodes.old marks.old)) }
+        ensures run { view self.new ≡ unless (work_fault (view self.old) number (length nodes.old) (length marks.old)) (view self.old) (worked_run (view self.old) (worked (view self.old) M.keys budget nodes.old marks.old)) }
+        ensures nodes { nodes.new ≡ unless (work_fault (view self.old) number (length nodes.old) (length marks.old)) nodes.old (worked (view self.old) M.keys budget nodes.old marks.old).nodes }
+        ensures marks { marks.new ≡ unless (work_fault (view self.old) number (length nodes.old) (length marks.old)) marks.old (worked (view self.old) M.keys budget nodes.old marks.old).marks }
     {
         if !self.is_latest(Phase::Working, number) {
             return Err(Refusal::ForeignClaim);
@@ -78,10 +78,10 @@ impl<D: StateModel, M: Measure + Drop> Run<D, M> {
         nodes: &mut [Node<D::State>],
         marks: &mut [u8],
     ) -> Result<Work, Refused<Ticket>>
-        ensures reply { result ≡ handed (work_fault (view D.meaning self.old) ticket.number (length nodes.old) (length marks.old)) ticket (worked_reply (view D.meaning self.old) ticket.number (worked (view D.meaning self.old) M.keys budget nodes.old marks.old)) }
-        ensures run { view D.meaning self.new ≡ unless (work_fault (view D.meaning self.old) ticket.number (length nodes.old) (length marks.old)) (view D.meaning self.old) (worked_run (view D.meaning self.old) (worked (view D.meaning self.old) M.keys budget nodes.old marks.old)) }
-        ensures nodes { nodes.new ≡ unless (work_fault (view D.meaning self.old) ticket.number (length nodes.old) (length marks.old)) nodes.old (worked (view D.meaning self.old) M.keys budget nodes.old marks.old).nodes }
-        ensures marks { marks.new ≡ unless (work_fault (view D.meaning self.old) ticket.number (length nodes.old) (length marks.old)) marks.old (worked (view D.meaning self.old) M.keys budget nodes.old marks.old).marks }
+        ensures reply { result ≡ handed (work_fault (view self.old) ticket.number (length nodes.old) (length marks.old)) ticket (worked_reply (view self.old) ticket.number (worked (view self.old) M.keys budget nodes.old marks.old)) }
+        ensures run { view self.new ≡ unless (work_fault (view self.old) ticket.number (length nodes.old) (length marks.old)) (view self.old) (worked_run (view self.old) (worked (view self.old) M.keys budget nodes.old marks.old)) }
+        ensures nodes { nodes.new ≡ unless (work_fault (view self.old) ticket.number (length nodes.old) (length marks.old)) nodes.old (worked (view self.old) M.keys budget nodes.old marks.old).nodes }
+        ensures marks { marks.new ≡ unless (work_fault (view self.old) ticket.number (length nodes.old) (length marks.old)) marks.old (worked (view self.old) M.keys budget nodes.old marks.old).marks }
     {
         match self.advance_open(ticket.number, budget, nodes, marks) {
             Ok(reply) => {
@@ -101,7 +101,7 @@ impl<D: StateModel, M: Measure + Drop> Run<D, M> {
 
     // Ends the open search; its expansions belong to the effort.
     pub(super) fn close(&mut self)
-        ensures { view D.meaning self.new ≡ closed_run (view D.meaning self.old) }
+        ensures { view self.new ≡ closed_run (view self.old) }
     {
         if let Some(search) = self.open.take() {
             self.effort += search.expanded();
@@ -110,8 +110,8 @@ impl<D: StateModel, M: Measure + Drop> Run<D, M> {
 
     // Ends the open search with nothing adopted.
     pub fn abandon<C: Claim>(&mut self, claim: C) -> Result<(), Refused<C>>
-        ensures reply { result ≡ handed (abandon_fault (view D.meaning self.old) (C.kind claim) (C.numbered claim)) claim tt }
-        ensures run { view D.meaning self.new ≡ unless (abandon_fault (view D.meaning self.old) (C.kind claim) (C.numbered claim)) (view D.meaning self.old) (closed_run (view D.meaning self.old)) }
+        ensures reply { result ≡ handed (abandon_fault (view self.old) (C.kind claim) (C.numbered claim)) claim tt }
+        ensures run { view self.new ≡ unless (abandon_fault (view self.old) (C.kind claim) (C.numbered claim)) (view self.old) (closed_run (view self.old)) }
     {
         if !self.is_latest(claim.phase(), claim.number()) {
             return Err(Refused {

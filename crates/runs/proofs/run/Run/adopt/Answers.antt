@@ -16,7 +16,7 @@ returns-in-Err g c =
 pub returns-in-Ok : goal.returns-in-Ok
 returns-in-Ok g c =
     let made = c.in-Ok.ensures in
-    let v = view g.D.StateModel.meaning c.args.self.now in
+    let v = view c.args.self.now in
     let nodes = c.args.nodes.now in
     let plan = c.args.plan.now in
     record {

@@ -6,7 +6,7 @@ use Rattle.runs.proofs.run.Run.advance_open.Goals as goal
 
 pub returns-in-Some : goal.returns-in-Some
 returns-in-Some g c =
-    let v = view g.D.StateModel.meaning c.args.self.now in
+    let v = view c.args.self.now in
     let nodes = c.args.nodes.now in
     let marks = c.args.marks.now in
     let u = standing c.in-Some.search in

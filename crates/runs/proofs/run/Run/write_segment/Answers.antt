@@ -7,7 +7,7 @@ use Rattle.runs.proofs.run.Run.write_segment.Goals as goal
 
 pub returns-then-end-used : goal.returns-then-end-used
 returns-then-end-used g c =
-    let v = view {M = g.row.M.Denot} g.D.StateModel.meaning c.args.self.now in
+    let v = view {M = g.row.M.Denot} c.args.self.now in
     let way = c.args.way.now in
     let nodes = c.args.nodes.now in
     let plan = c.args.plan.now in
@@ -19,7 +19,7 @@ returns-then-end-used g c =
 
 pub returns : goal.returns
 returns g c =
-    let v = view {M = g.row.M.Denot} g.D.StateModel.meaning c.args.self.now in
+    let v = view {M = g.row.M.Denot} c.args.self.now in
     let way = c.args.way.now in
     let nodes = c.args.nodes.now in
     let plan = c.args.plan.now in
