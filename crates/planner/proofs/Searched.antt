@@ -1,5 +1,5 @@
 -- A whole search that was not refused, as a search by the sets of at most k atoms. Assumes nothing.
-use Rattle.std.proofs.Common.{◌≡◌, ℕ, ◌+◌, ◌<◌, Bool, true, false, cond, ◌||◌, ltb, List, length, get_or, set, Some, None, Ok, Err, Option, Result, sym, refl, ap, ◌∙◌, subst, ap₂, ⊎_elim, arith}
+use Rattle.std.proofs.Common.{◌≡◌, ℕ, zero, suc, ◌+◌, ◌<◌, Bool, true, false, cond, ◌||◌, ltb, List, [], ◌∷◌, length, get_or, set, Some, None, Ok, Err, Option, Result, sym, refl, ap, ◌∙◌, subst, ap₂, ⊎_elim, arith}
 use Rattle.std.proofs.lemmas.List.{get_or-set_same, get_or-set_other}
 use Rattle.std.proofs.lemmas.Bool.{cases_eq, ltb-true, cond-true}
 use Rattle.domain.specs.Model.{Meaning}
@@ -10,7 +10,7 @@ use Rattle.planner.specs.Findings.{WholeFindings}
 use Rattle.planner.specs.Search.{Task, Snapshot}
 use Rattle.planner.specs.Whole.{at_end, reply_of, search_fault, search_reply, search_nodes}
 use Rattle.planner.specs.Way.{way_holds, way_fault, written_reply}
-use Rattle.planner.specs.Widths.{unmade, first_fault, tuple_task, width_fault, Searched, ExhaustedBelow}
+use Rattle.planner.specs.Widths.{first_fault, tuple_task, width_fault, Searched, ExhaustedBelow, UnmadeFrom}
 use Rattle.planner.specs.declared.node.Node.{Node}
 use Rattle.planner.specs.declared.node.Reply.{Reply}
 use Rattle.planner.specs.declared.node.Way.{Way}
@@ -91,23 +91,35 @@ written_ok (Some x) n m h = let z : ◌≡◌ {A = ℕ} 0 1 = cc in absurd (omeg
 written_ok None n m h = (refl, cc)
 
 -- one more search ended exhausted
-pub exhausted_more : {S : Type 0} (P : Meaning S) (k : ℕ) (replies : List Reply) (r : Reply) (end : List (Node S)) → k < length replies
-    → ExhaustedBelow P k replies → Searched P k end r → r.outcome ≡ Exhausted → ExhaustedBelow P (k + 1) (set replies k r)
+pub exhausted_more : {S : Type 0} (P : Meaning S) (k : ℕ) (replies : List (Option Reply)) (r : Reply) (end : List (Node S)) → k < length replies
+    → ExhaustedBelow P k replies → Searched P k end r → r.outcome ≡ Exhausted → ExhaustedBelow P (k + 1) (set replies k (Some r))
 exhausted_more P k replies r end within before here out j lt =
     ⊎_elim
     (λ same.
-    let is : get_or (set replies k r) j unmade ≡ r = ap (λ i. get_or (set replies k r) i unmade) same ∙ get_or-set_same replies k r unmade within in
-    (end, subst (λ i. Searched P i end (get_or (set replies k r) j unmade)) (sym same) (subst (Searched P k end) (sym is) here), ap (λ x. x.outcome) is ∙ out))
+    (end, r, ap (λ i. get_or (set replies k (Some r)) i None) same ∙ get_or-set_same replies k (Some r) None within, subst (λ i. Searched P i end r) (sym same) here, out))
     (λ other.
     let old = before j (omega arith) in
-    let is : get_or (set replies k r) j unmade ≡ get_or replies j unmade = get_or-set_other replies k j r unmade other in
-    (old.0, subst (Searched P j old.0) (sym is) old.1, ap (λ x. x.outcome) is ∙ old.2))
+    (old.0, old.1, get_or-set_other replies k j (Some r) None other ∙ old.2, old.3, old.4))
     (cases_eq j k)
 
--- writing the reply of k leaves those below it
-pub exhausted_same : {S : Type 0} (P : Meaning S) (k : ℕ) (replies : List Reply) (r : Reply) → ExhaustedBelow P k replies → ExhaustedBelow P k (set replies k r)
+-- at first no search is made
+pub unmade_first : (k : ℕ) → get_or {A = Option Reply} (None ∷ None ∷ None ∷ []) k None ≡ None
+unmade_first zero = refl
+unmade_first (suc zero) = refl
+unmade_first (suc (suc zero)) = refl
+unmade_first (suc (suc (suc k))) = refl
+
+-- writing the reply of k leaves those below it,
+pub exhausted_same : {S : Type 0} (P : Meaning S) (k : ℕ) (replies : List (Option Reply)) (r : Reply) → ExhaustedBelow P k replies
+    → ExhaustedBelow P k (set replies k (Some r))
 exhausted_same P k replies r before j lt =
     let other : j ≡ k → ⊥ = λ e. omega arith in
-    let is : get_or (set replies k r) j unmade ≡ get_or replies j unmade = get_or-set_other replies k j r unmade other in
     let old = before j lt in
-    (old.0, subst (Searched P j old.0) (sym is) old.1, ap (λ x. x.outcome) is ∙ old.2)
+    (old.0, old.1, get_or-set_other replies k j (Some r) None other ∙ old.2, old.3, old.4)
+
+-- and the places from k + 1 on
+pub unmade_same : {S : Type 0} (P : Meaning S) (k : ℕ) (replies : List (Option Reply)) (r : Reply) → UnmadeFrom P k replies
+    → UnmadeFrom P (k + 1) (set replies k (Some r))
+unmade_same P k replies r unmade j le =
+    let other : j ≡ k → ⊥ = λ e. omega arith in
+    get_or-set_other replies k j (Some r) None other ∙ unmade j (omega arith)

@@ -1,11 +1,11 @@
 -- Searches by the sets of at most k true atoms, for k = 0, 1, 2 in turn, until one finds a way. Assumes nothing.
-use Rattle.std.specs.Prelude.{◌≡◌, ℕ, ◌+◌, ◌<◌, ◌⊎◌, List, ◌++◌, length, get_or, drop, Some, None, Ok, Err, Option, Result, slice_index_or}
+use Rattle.std.specs.Prelude.{◌≡◌, ℕ, ◌+◌, ◌<◌, ◌≤◌, ◌⊎◌, List, ◌++◌, length, drop, Some, None, Ok, Err, Option, Result, slice_index_or}
 use Rattle.domain.specs.Model.{Meaning}
 use Rattle.domain.specs.declared.refusal.Refusal.{Refusal}
 use Rattle.domain.specs.declared.refusal.Refusal.TheVariants.{PlanFull}
 use Rattle.novelty.specs.Tuples.{tuple_keys, tuple_count, tuples_fault}
 use Rattle.planner.specs.declared.node.Node.{Node}
-use Rattle.planner.specs.declared.node.Outcome.TheVariants.{Found, Exhausted, Open}
+use Rattle.planner.specs.declared.node.Outcome.TheVariants.{Found, Exhausted}
 use Rattle.planner.specs.declared.node.Reply.{Reply}
 use Rattle.planner.specs.declared.node.Way.{Way}
 use Rattle.planner.specs.declared.widths.Attempts.{Attempts}
@@ -13,10 +13,6 @@ use Rattle.planner.specs.Findings.{WholeFindings}
 use Rattle.planner.specs.Search.{Task, task}
 use Rattle.planner.specs.Way.{actions_of}
 use Rattle.planner.specs.Whole.{at_end, reply_of, search_fault}
-
--- a reply for a search that was not made
-abbrev pub unmade : Reply
-unmade = record { outcome = Open; expanded = 0; kept = 0 }
 
 -- the first of two faults
 abbrev pub first_fault : Option Refusal → Option Refusal → Option Refusal
@@ -42,18 +38,22 @@ module _ {S : Type 0} (P : Meaning S) where
     pub left : end ≡ (at_end (tuple_task k) nodes marks).nodes
     pub findings : WholeFindings (tuple_task k) nodes marks end r
 
-  -- the searches by k below n ended exhausted
-  abbrev pub ExhaustedBelow : ℕ → List Reply → Type 0
+  -- the searches by k below n were made, and ended exhausted
+  abbrev pub ExhaustedBelow : ℕ → List (Option Reply) → Type 0
   ExhaustedBelow n replies =
-      (k : ℕ) → k < n → (end : List (Node S)) × Searched k end (slice_index_or replies k unmade) × ((get_or replies k unmade).outcome ≡ Exhausted)
+      (k : ℕ) → k < n → (end : List (Node S)) × (r : Reply) × (slice_index_or replies k None ≡ Some r) × Searched k end r × (r.outcome ≡ Exhausted)
 
-  -- All three searches were exhausted, and the plan is as it was; or those below some k were, and the search by k found
-  -- a way, which now stands at the plan's beginning.
+  -- no search by k from n on was made
+  abbrev pub UnmadeFrom : ℕ → List (Option Reply) → Type 0
+  UnmadeFrom n replies = (k : ℕ) → n ≤ k → slice_index_or replies k None ≡ None
+
+  -- All three searches were exhausted, and the plan is as it was; or those below some k were, and the search by k, the
+  -- last one made, found a way, which now stands at the plan's beginning.
   abbrev pub Attempted : List (Node S) → List ℕ → List ℕ → Attempts → Type 0
   Attempted end before plan a =
-      ((a.tried ≡ 3) × (a.steps ≡ 0) × ExhaustedBelow 3 a.replies × (plan ≡ before))
-      ⊎ ((k : ℕ) × (w : Way) × (k < 3) × (a.tried ≡ k + 1) × (a.steps ≡ w.length) × ExhaustedBelow k a.replies
-      × Searched k end (slice_index_or a.replies k unmade) × ((get_or a.replies k unmade).outcome ≡ Found w)
+      ((a.steps ≡ None) × ExhaustedBelow 3 a.replies × (plan ≡ before))
+      ⊎ ((k : ℕ) × (w : Way) × (r : Reply) × (k < 3) × (a.steps ≡ Some w.length) × ExhaustedBelow k a.replies × UnmadeFrom (k + 1) a.replies
+      × (slice_index_or a.replies k None ≡ Some r) × Searched k end r × (r.outcome ≡ Found w)
       × (plan ≡ actions_of end w ++ drop w.length before))
 
   -- Why trying the widths is refused: a search by some k is not to be had in this memory, or the way that it found is

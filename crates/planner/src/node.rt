@@ -1,5 +1,6 @@
 // What a search keeps and what it replies.
 ghost use Rattle.std.specs.Prelude.{◌≡◌};
+ghost use Rattle.planner.specs.Search.{node};
 
 // A kept state, with its link: the number of the state it was reached from, and the action that led here.
 #[derive(Clone, Copy, PartialEq, Eq, Debug)]
@@ -7,6 +8,19 @@ pub struct Node<S> {
     pub state: S,
     pub parent: usize,
     pub action: usize,
+}
+
+impl<S> Node<S> {
+    // A node with no link, as the start has, and a place that is not used yet.
+    pub fn unlinked(state: S) -> Node<S>
+        ensures { result ≡ node state 0 0 }
+    {
+        Node {
+            state,
+            parent: 0,
+            action: 0,
+        }
+    }
 }
 
 // The way to a target: the number of the last kept state on it, the last action, and how many actions it has.

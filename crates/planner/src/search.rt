@@ -136,11 +136,7 @@ pub(crate) fn begin<D: StateModel, M: Measure>(
     clear_marks(marks, measure.count());
     let start = model.start();
     measure.mark(&model.truths(start), marks);
-    nodes[0] = Node {
-        state: start,
-        parent: 0,
-        action: 0,
-    };
+    nodes[0] = Node::unlinked(start);
     Progress {
         expanded: 0,
         kept: 1,

@@ -10,12 +10,11 @@ use domain::model::StateModel;
 use domain::refusal::Refusal;
 use novelty::tuples::Tuples;
 
-// The replies of the searches that were made, in order, and how many steps the plan has, 0 without a find.
-#[derive(Clone, Copy, Debug)]
+// The replies by width, `None` for a search that was not made, and how many steps the plan has, if a way was found.
+#[derive(Clone, Copy, Debug, Default)]
 pub struct Attempts {
-    pub replies: [Reply; 3],
-    pub tried: usize,
-    pub steps: usize,
+    pub replies: [Option<Reply>; 3],
+    pub steps: Option<usize>,
 }
 
 // One whole search of the model by the sets of at most `width` of its true atoms.
@@ -34,13 +33,6 @@ pub fn width_search<D: StateModel>(
     whole_search(model, &measure, nodes, marks)
 }
 
-// A reply for a search that was not made.
-const UNMADE: Reply = Reply {
-    outcome: Outcome::Open,
-    expanded: 0,
-    kept: 0,
-};
-
 // Searches by the sets of at most k true atoms for k = 0, 1, 2 in turn, until one finds a way, and writes that way into
 // the plan's beginning. A refusal writes nothing into the plan.
 pub fn try_widths<D: StateModel>(
@@ -51,19 +43,20 @@ pub fn try_widths<D: StateModel>(
 ) -> Result<Attempts, Refusal>
     ensures { Answered (D.meaning model.now) nodes.old marks.old plan.old nodes.new plan.new result }
 {
-    let mut attempts = Attempts {
-        replies: [UNMADE; 3],
-        tried: 0,
-        steps: 0,
-    };
-    for width in 0..3 {
+    let mut replies = [None; 3];
+    for (width, place) in replies.iter_mut().enumerate() {
         let reply = width_search(model, width, nodes, marks)?;
-        attempts.replies[width] = reply;
-        attempts.tried = width + 1;
+        *place = Some(reply);
         if let Outcome::Found(way) = reply.outcome {
-            attempts.steps = write_way(model, nodes, &way, plan)?;
-            return Ok(attempts);
+            let steps = write_way(model, nodes, &way, plan)?;
+            return Ok(Attempts {
+                replies,
+                steps: Some(steps),
+            });
         }
     }
-    Ok(attempts)
+    Ok(Attempts {
+        replies,
+        steps: None,
+    })
 }

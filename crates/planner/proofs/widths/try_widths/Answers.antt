@@ -1,13 +1,13 @@
-use Rattle.std.proofs.Common.{◌≡◌, ◌<◌, ◌++◌, length, get_or, drop, set, sym, refl, ap, ◌∙◌, subst, inl, inr, arith, length-set}
+use Rattle.std.proofs.Common.{◌≡◌, Some, None, ◌<◌, ◌++◌, length, drop, sym, refl, ap, ◌∙◌, subst, inl, inr, arith, length-set}
 use Rattle.std.proofs.lemmas.List.{get_or-set_same}
 use Rattle.std.proofs.lemmas.Result.{err_from_is_err_and}
 use Rattle.planner.specs.Way.{actions_of, written_list}
-use Rattle.planner.specs.Widths.{unmade, Searched, ExhaustedBelow}
-use Rattle.planner.proofs.Searched.{refused_by, fault_by_length, ended_exhausted, full_by, written_by, written_ok, exhausted_more, exhausted_same}
+use Rattle.planner.specs.Widths.{ExhaustedBelow}
+use Rattle.planner.proofs.Searched.{refused_by, fault_by_length, ended_exhausted, full_by, written_by, written_ok, exhausted_more, exhausted_same, unmade_same, unmade_first}
 use Rattle.planner.proofs.widths.try_widths.Goals as goal
 
 pub loop-width-init : goal.loop-width-init
-loop-width-init g c = (refl, refl, refl, λ k lt. absurd (omega arith), refl)
+loop-width-init g c = (refl, λ k lt. absurd (omega arith), λ k _. unmade_first k, refl)
 
 -- the search by this width was refused
 pub returns-in_err-reply : goal.returns-in_err-reply
@@ -19,7 +19,7 @@ returns-in_err-reply g c =
     let m : length c.args.marks.now ≡ length c.loop-width.marks = omega arith in
     let fault = refused_by _ _ c.in_err-reply.field-0.0 (sym c.width_search.ensures.value ∙ c.in_err-reply.was) in
     rw (p.1, p.2) (
-      inv.4,
+      inv.3,
       (
         c.loop-width.width,
         c.loop-width-test.true,
@@ -28,23 +28,23 @@ returns-in_err-reply g c =
     )
 
 -- the way was refused: it holds, so the list is too short
-pub returns-in_err-attempts : goal.returns-in_err-attempts
-returns-in_err-attempts g c =
-    let p = err_from_is_err_and c.from_residual-in_err-attempts.result c.from_residual-in_err-attempts.ensures.1 in
+pub returns-in_err-steps : goal.returns-in_err-steps
+returns-in_err-steps g c =
+    let p = err_from_is_err_and c.from_residual-in_err-steps.result c.from_residual-in_err-steps.ensures.1 in
     let P = g.D.StateModel.meaning c.args.model.now in
     let inv = c.loop-width.invariant in
     let end = c.width_search.new.nodes in
     let way = c.in-Found.way in
-    let e = c.in_err-attempts.field-0.0 in
+    let e = c.in_err-steps.field-0.0 in
     let here = c.width_search.ensures.searched c.in_ok-reply.reply c.in_ok-reply.was in
-    let fault = written_by _ _ e (sym c.write_way.ensures.reply ∙ c.in_err-attempts.was) in
+    let fault = written_by _ _ e (sym c.write_way.ensures.reply ∙ c.in_err-steps.was) in
     let full = full_by P end way (length c.loop-width.plan) e (here.findings.findings.holds way c.in-Found.is) fault in
     rw (p.1, p.2) (
-      c.write_way.ensures.after ∙ ap (λ f. written_list f (actions_of end way) c.loop-width.plan) fault ∙ inv.4,
+      c.write_way.ensures.after ∙ ap (λ f. written_list f (actions_of end way) c.loop-width.plan) fault ∙ inv.3,
       (
         c.loop-width.width,
         c.loop-width-test.true,
-        inr (full.0, (end, c.in_ok-reply.reply, way, here, c.in-Found.is, subst (λ xs. length xs < way.length) inv.4 full.1)),
+        inr (full.0, (end, c.in_ok-reply.reply, way, here, c.in-Found.is, subst (λ xs. length xs < way.length) inv.3 full.1)),
       ),
     )
 
@@ -54,26 +54,27 @@ returns-in-Found g c =
     let P = g.D.StateModel.meaning c.args.model.now in
     let inv = c.loop-width.invariant in
     let k = c.loop-width.width in
-    let replies = c.loop-width.attempts.replies in
+    let replies = c.loop-width.place-items in
     let reply = c.in_ok-reply.reply in
     let end = c.width_search.new.nodes in
     let way = c.in-Found.way in
     let here = c.width_search.ensures.searched reply c.in_ok-reply.was in
-    let done = written_ok _ _ _ (sym c.write_way.ensures.reply ∙ c.in_ok-attempts.was) in
-    let within : k < length replies = omega (arith, inv.2) in
-    let is : get_or (set replies k reply) k unmade ≡ reply = get_or-set_same replies k reply unmade within in
+    let done = written_ok _ _ _ (sym c.write_way.ensures.reply ∙ c.in_ok-steps.was) in
+    let within : k < length replies = omega (arith, inv.0) in
     let long = here.findings.findings.long way c.in-Found.is in
     inr (
       k,
       way,
-      c.loop-width-test.true,
-      refl,
-      done.1,
-      exhausted_same P k replies reply inv.3,
-      subst (Searched P k end) (sym is) here,
-      ap (λ r. r.outcome) is ∙ c.in-Found.is,
+      reply,
+      omega arith,
+      ap Some done.1,
+      exhausted_same P k replies reply inv.1,
+      unmade_same P k replies reply inv.2,
+      get_or-set_same replies k (Some reply) None within,
+      here,
+      c.in-Found.is,
       c.write_way.ensures.after ∙ ap (λ f. written_list f (actions_of end way) c.loop-width.plan) done.0
-          ∙ ap (λ n. actions_of end way ++ drop n c.loop-width.plan) long ∙ ap (λ xs. actions_of end way ++ drop way.length xs) inv.4,
+          ∙ ap (λ n. actions_of end way ++ drop n c.loop-width.plan) long ∙ ap (λ xs. actions_of end way ++ drop way.length xs) inv.3,
     )
 
 -- the search by this width was exhausted
@@ -82,15 +83,15 @@ loop-width-preserved g c =
     let P = g.D.StateModel.meaning c.args.model.now in
     let inv = c.loop-width.invariant in
     let k = c.loop-width.width in
+    let replies = c.loop-width.place-items in
     let reply = c.in_ok-reply.reply in
     let here = c.width_search.ensures.searched reply c.in_ok-reply.was in
-    let within : k < length c.loop-width.attempts.replies = omega (arith, inv.2) in (
-      refl,
-      inv.1,
-      length-set c.loop-width.attempts.replies k reply ∙ inv.2,
-      exhausted_more P k c.loop-width.attempts.replies reply c.width_search.new.nodes within inv.3 here
+    let within : k < length replies = omega (arith, inv.0) in (
+      length-set replies k (Some reply) ∙ inv.0,
+      exhausted_more P k replies reply c.width_search.new.nodes within inv.1 here
           (ended_exhausted reply.outcome c.in_default.not-Found here.findings.ends),
-      inv.4,
+      unmade_same P k replies reply inv.2,
+      inv.3,
     )
 
 pub returns : goal.returns
@@ -98,4 +99,4 @@ returns g c =
     let P = g.D.StateModel.meaning c.args.model.now in
     let inv = c.loop-width.invariant in
     let all : c.loop-width.width ≡ 3 = omega arith in
-    inl (inv.0 ∙ all, inv.1, subst (λ k. ExhaustedBelow P k c.loop-width.attempts.replies) all inv.3, inv.4)
+    inl (refl, subst (λ k. ExhaustedBelow P k c.loop-width.place-items) all inv.1, inv.3)
