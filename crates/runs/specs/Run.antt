@@ -1,10 +1,9 @@
 -- Runs: where a run stands, and what each call replies and leaves, for all arguments. Assumes nothing.
-use Rattle.std.specs.Prelude.{ℕ, Some, None, Option}
+use Rattle.std.specs.Prelude.{ℕ, None, Option}
 use Rattle.domain.specs.Model.{Meaning}
 use Rattle.domain.specs.declared.model.StateModel.{Ghosts}
 use Rattle.sketch.specs.declared.sketch.Sketch.{Sketch}
-use Rattle.planner.specs.Stepwise.{UnderWay, standing}
-use Rattle.planner.specs.declared.stepwise.Search.{Search}
+use Rattle.planner.specs.Stepwise.{UnderWay}
 use Rattle.runs.specs.declared.run.Run.{Run}
 
 -- Where a run stands: the problem and the sketch; the state where the adopted segments lead, how many steps they have, the
@@ -18,11 +17,6 @@ pub record View (S M : Type 0) : Type 0 where
   pub searches : ℕ
   pub opened : Option (UnderWay M)
 
--- an open search, without the facts of its type
-abbrev pub under : {M : Type 0} → Option (Search M) → Option (UnderWay M)
-under None = None
-under (Some s) = Some (standing s)
-
 -- where a run stands, without the facts of its type; its problem is what its model means
 abbrev pub view : {D M S : Type 0} {bound : Ghosts D S} → Run D M S bound → View S M
 view {bound = B} r = record {
@@ -32,7 +26,7 @@ view {bound = B} r = record {
   effort = r.effort;
   length = r.length;
   searches = r.searches;
-  opened = under r.«open»;
+  opened = r.«open»;
 }
 
 -- a run that is just made: the model's start is current, and nothing is done

@@ -1,6 +1,5 @@
-use Rattle.std.proofs.Common.{sym, ap}
-use Rattle.planner.specs.Stepwise.{standing}
-use Rattle.runs.specs.Run.{view, under}
+use Rattle.std.proofs.Common.{sym}
+use Rattle.runs.specs.Run.{view}
 use Rattle.runs.proofs.Working.{reply_from, run_from, list_from}
 use Rattle.runs.proofs.run.Run.advance_open.Goals as goal
 
@@ -9,8 +8,8 @@ returns-in-Some g c =
     let v = view c.args.self.now in
     let nodes = c.args.nodes.now in
     let marks = c.args.marks.now in
-    let u = standing c.in-Some.search in
-    let is = ap under c.in-Some.is in
+    let u = c.in-Some.search in
+    let is = c.in-Some.is in
     let latest = sym c.if-not-is_latest.ensures in
     let made = c.advance.ensures in
     record {
