@@ -6,6 +6,7 @@ use Rattle.novelty.specs.Marks.{novel, marked}
 use Rattle.planner.specs.declared.node.Node.{Node}
 use Rattle.planner.specs.declared.node.Link.{Link}
 use Rattle.planner.specs.declared.node.Progress.{Progress}
+use Rattle.planner.specs.declared.search.Task.{Task as Held}
 
 -- What a search is given: the problem that it searches, and a measure by its keys of a set of atoms and its count.
 pub record Task (S : Type 0) : Type 0 where
@@ -15,6 +16,10 @@ pub record Task (S : Type 0) : Type 0 where
 
 abbrev pub task : {S : Type 0} → Meaning S → (List ℕ → List ℕ) → ℕ → Task S
 task P keys count = record { problem = P; keys = keys; count = count }
+
+-- the same, as the kernel holds it
+abbrev pub given : {D M S : Type 0} → (D → Meaning S) → (M → List ℕ → List ℕ) → Held D M → Task S
+given meaning keys t = task (meaning t.model.now) (keys t.measure.now) t.count
 
 -- What a search holds between two calls: the nodes and marks, how many states are expanded and kept, and the
 -- link that met a target, once one did. Numbers from `expanded` below `kept` wait; the first of them is the next

@@ -1,6 +1,6 @@
 // What a search keeps and what it replies.
 ghost use Rattle.std.specs.Prelude.{◌≡◌};
-ghost use Rattle.planner.specs.Search.{node};
+ghost use Rattle.planner.specs.Search.{node, goes_on};
 
 // A kept state, with its link: the number of the state it was reached from, and the action that led here.
 #[derive(Clone, Copy, PartialEq, Eq, Debug)]
@@ -65,6 +65,15 @@ pub(crate) struct Progress {
     pub(crate) expanded: usize,
     pub(crate) kept: usize,
     pub(crate) met: Option<Link>,
+}
+
+impl Progress {
+    // No target is met yet, and a state waits.
+    pub(crate) fn goes_on(&self) -> bool
+        ensures { result ≡ goes_on self.now.met self.now.expanded self.now.kept }
+    {
+        self.met.is_none() && self.expanded < self.kept
+    }
 }
 
 // From which number, by which action.

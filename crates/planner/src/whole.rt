@@ -1,11 +1,11 @@
 // One whole search.
 ghost use Rattle.std.specs.Prelude.{◌≡◌, ◌<◌, ◌≤◌, false, length, Ok};
 ghost use Rattle.planner.specs.Findings.{WholeFindings};
-ghost use Rattle.planner.specs.Search.{snap, task};
+ghost use Rattle.planner.specs.Search.{snap, task, given};
 ghost use Rattle.planner.specs.Whole.{Within, reply_by, search_fault, at_end, search_reply, search_nodes, search_marks};
 
 use crate::node::{Node, Outcome, Progress, Reply, Way};
-use crate::search::{advance, begin};
+use crate::search::Task;
 use crate::way::trace_back;
 use domain::model::StateModel;
 use domain::refusal::Refusal;
@@ -34,21 +34,20 @@ pub(crate) fn reply<S>(nodes: &[Node<S>], progress: &Progress) -> Reply
 
 // Begins a search and advances it until it ends.
 fn search_to_end<D: StateModel, M: Measure>(
-    model: &D,
-    measure: &M,
+    task: &Task<D, M>,
     nodes: &mut [Node<D::State>],
     marks: &mut [u8],
 ) -> Progress
-    requires nodes { M.total measure.now ≤ length nodes.old }
-    requires marks { M.total measure.now ≤ length marks.old }
-    requires start { (D.meaning model.now).target (D.meaning model.now).start ≡ false }
-    ensures value { snap nodes.new marks.new result ≡ at_end (task (D.meaning model.now) (M.keys measure.now) (M.total measure.now)) nodes.old marks.old }
+    requires counted { task.now.count ≡ M.total task.now.measure.now }
+    requires nodes { task.now.count ≤ length nodes.old }
+    requires marks { task.now.count ≤ length marks.old }
+    requires start { (D.meaning task.now.model.now).target (D.meaning task.now.model.now).start ≡ false }
+    ensures value { snap nodes.new marks.new result ≡ at_end (given D.meaning M.keys task.now) nodes.old marks.old }
     ensures within { Within (length nodes.new) result.met }
-    ensures findings { WholeFindings (task (D.meaning model.now) (M.keys measure.now) (M.total measure.now)) nodes.old marks.old nodes.new (reply_by nodes.new result.met result.expanded result.kept) }
+    ensures findings { WholeFindings (given D.meaning M.keys task.now) nodes.old marks.old nodes.new (reply_by nodes.new result.met result.expanded result.kept) }
 {
-    let count = measure.count();
-    let mut progress = begin(model, measure, nodes, marks);
-    advance(model, measure, count, nodes, marks, &mut progress, count);
+    let mut progress = task.begin(nodes, marks);
+    task.advance(nodes, marks, &mut progress, task.count);
     progress
 }
 
@@ -68,10 +67,10 @@ pub fn whole_search<D: StateModel, M: Measure>(
     if model.is_target(model.start()) {
         return Err(Refusal::AtTarget);
     }
-    let count = measure.count();
-    if nodes.len() < count || marks.len() < count {
+    let task = Task::new(model, measure);
+    if task.lacks_places(nodes, marks) {
         return Err(Refusal::FewPlaces);
     }
-    let progress = search_to_end(model, measure, nodes, marks);
+    let progress = search_to_end(&task, nodes, marks);
     Ok(reply(nodes, &progress))
 }

@@ -5,19 +5,12 @@ ghost use Rattle.planner.specs.Search.{task, begun};
 ghost use Rattle.planner.specs.Stepwise.{started, lacks, worked_on, moved_on, advance_reply};
 
 use crate::node::{Node, Outcome, Reply};
-use crate::search::{advance, begin};
+use crate::search::Task;
 use crate::stepwise::Search;
 use crate::whole::reply;
 use domain::model::StateModel;
 use domain::refusal::Refusal;
 use novelty::measure::Measure;
-
-// Whether there are fewer places for states or for marks than keys.
-fn are_few<S>(count: usize, nodes: &[Node<S>], marks: &[u8]) -> bool
-    ensures { result ≡ lacks count (length nodes.now) (length marks.now) }
-{
-    nodes.len() < count || marks.len() < count
-}
 
 impl<M: Measure + Drop> Search<M> {
     // Begins a search of the model: the start is kept as number 0, with its keys alone marked. With fewer places for
@@ -33,11 +26,12 @@ impl<M: Measure + Drop> Search<M> {
         ensures nodes { nodes.new ≡ (if lacks (M.total measure) (length nodes.old) (length marks.old) then nodes.old else (begun (task (D.meaning model.now) (M.keys measure) (M.total measure)) nodes.old marks.old).nodes) }
         ensures marks { marks.new ≡ (if lacks (M.total measure) (length nodes.old) (length marks.old) then marks.old else (begun (task (D.meaning model.now) (M.keys measure) (M.total measure)) nodes.old marks.old).marks) }
     {
-        let count = measure.count();
-        if are_few(count, nodes, marks) {
+        let task = Task::new(model, &measure);
+        if task.lacks_places(nodes, marks) {
             return Err(Refusal::FewPlaces);
         }
-        let progress = begin(model, &measure, nodes, marks);
+        let count = task.count;
+        let progress = task.begin(nodes, marks);
         Ok(Search {
             measure,
             count,
@@ -60,20 +54,16 @@ impl<M: Measure + Drop> Search<M> {
         ensures nodes { nodes.new ≡ (if lacks self.old.count (length nodes.old) (length marks.old) then nodes.old else (worked_on (D.meaning model.now) M.keys budget self.old nodes.old marks.old).nodes) }
         ensures marks { marks.new ≡ (if lacks self.old.count (length nodes.old) (length marks.old) then marks.old else (worked_on (D.meaning model.now) M.keys budget self.old nodes.old marks.old).marks) }
     {
-        let count = self.count;
-        if are_few(count, nodes, marks) {
+        let task = Task {
+            model,
+            measure: &self.measure,
+            count: self.count,
+        };
+        if task.lacks_places(nodes, marks) {
             return Err(Refusal::FewPlaces);
         }
         let mut progress = self.progress;
-        advance(
-            model,
-            &self.measure,
-            count,
-            nodes,
-            marks,
-            &mut progress,
-            budget,
-        );
+        task.advance(nodes, marks, &mut progress, budget);
         let told = reply(nodes, &progress);
         self.progress = progress;
         self.outcome = told.outcome;

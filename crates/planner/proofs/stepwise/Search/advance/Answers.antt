@@ -11,7 +11,7 @@ reply-told-requires g c =
     let Q = task (g.D.StateModel.meaning c.args.model.now) (g.M.Measure.keys s.measure) s.count in
     let first = snap c.args.nodes.now c.args.marks.now s.progress in
     let B = bounded_after Q c.args.budget first _ (record { kept = held.kept; expanded = held.expanded; within = held.within }) c.advance.ensures in
-    let enough = or_parts (ltb (length c.args.nodes.now) s.count) (ltb (length c.args.marks.now) s.count) (sym c.if-are_few.ensures) in
+    let enough = or_parts (ltb (length c.args.nodes.now) s.count) (ltb (length c.args.marks.now) s.count) (sym c.if-lacks_places.ensures) in
     let long : s.count ≤ length c.advance.new.nodes = let le = ltb-false _ _ enough.0 in omega arith in
     within_from s.count (length c.advance.new.nodes) c.advance.new.progress.met B.within long
 

@@ -2,33 +2,33 @@ use Rattle.std.proofs.Common.{◌≡◌, ◌<◌, ◌≤◌, true, not, ltb, is_
 use Rattle.std.proofs.lemmas.Bool.{and_parts, ltb-true}
 use Rattle.planner.specs.Search.{snap, goes_on}
 use Rattle.planner.proofs.Steps.{advanced_first, advanced_ended, advanced_more, advanced_all, expand_next_kept}
-use Rattle.planner.proofs.search.advance.Goals as goal
+use Rattle.planner.proofs.search.Task.advance.Goals as goal
 
-pub loop-done-init : goal.loop-done-init
-loop-done-init g c = (advanced_first _ c.args.budget _, c.requires.held)
+pub loop-init : goal.loop-init
+loop-init g c = (advanced_first _ c.args.budget _, c.requires.held)
 
 pub returns-then-not-goes_on : goal.returns-then-not-goes_on
 returns-then-not-goes_on g c =
-    sym (c.loop-done.invariant.0 ∙ advanced_ended _ _ _ (sym c.goes_on.ensures ∙ c.if-not-goes_on.true))
+    sym (c.loop.invariant.0 ∙ advanced_ended _ _ _ (sym c.goes_on.ensures ∙ c.if-not-goes_on.true))
 
 pub expand-requires : goal.expand-requires
 expand-requires g c =
-    let p = c.loop-done.progress in
+    let p = c.loop.progress in
     let on : goes_on p.met p.expanded p.kept ≡ true = sym c.goes_on.ensures ∙ c.if-not-goes_on.false in
     let waits : p.expanded < p.kept = ltb-true _ _ (and_parts (not (is_some p.met)) (ltb p.expanded p.kept) on).1 in
-    let few = c.loop-done.invariant.1 in
+    let few = c.loop.invariant.1 in
     record { places = omega arith; waiting = omega (arith, few) }
 
-pub loop-done-preserved : goal.loop-done-preserved
-loop-done-preserved g c =
-    let p = c.loop-done.progress in
+pub loop-preserved : goal.loop-preserved
+loop-preserved g c =
+    let p = c.loop.progress in
     let on : goes_on p.met p.expanded p.kept ≡ true = sym c.goes_on.ensures ∙ c.if-not-goes_on.false in
-    let more : c.loop-done.done < c.args.budget = omega arith in (
-      c.loop-done.invariant.0 ∙ advanced_more _ _ _ _ _ on c.expand.ensures more,
-      subst (λ k. k ≤ c.args.count) (sym (ap (λ h. h.kept) c.expand.ensures)) (expand_next_kept _ (snap c.loop-done.nodes c.loop-done.marks p) c.loop-done.invariant.1),
+    let more : c.loop.counter < c.args.budget = omega arith in (
+      c.loop.invariant.0 ∙ advanced_more _ _ _ _ _ on c.expand.ensures more,
+      subst (λ k. k ≤ c.args.self.now.count) (sym (ap (λ h. h.kept) c.expand.ensures)) (expand_next_kept _ (snap c.loop.nodes c.loop.marks p) c.loop.invariant.1),
     )
 
 pub returns : goal.returns
 returns g c =
-    let past : c.args.budget ≤ c.loop-done.done = omega arith in
-    sym (c.loop-done.invariant.0 ∙ advanced_all _ _ _ _ past)
+    let past : c.args.budget ≤ c.loop.counter = omega arith in
+    sym (c.loop.invariant.0 ∙ advanced_all _ _ _ _ past)
