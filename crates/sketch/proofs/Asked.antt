@@ -1,48 +1,38 @@
--- What the code reads of a sketch's arrays, as the definitions say it of the lists. Assumes nothing.
-use Rattle.std.proofs.Common.{◌≡◌, ℕ, ◌+◌, ◌<◌, ◌≤◌, List, [], ◌∷◌, ◌++◌, length, get_or, take, set, sym, ap, ◌∙◌, ap₂, arith}
-use Rattle.std.proofs.lemmas.List.{length-map, length-set, get_or-take, get_or-map, get_or_past, take_more_set, map_more}
-use Rattle.sketch.specs.Feature.{kinds_of, values_of, value_of}
-use Rattle.sketch.specs.Rule.{idle, kind_at, entry_at, rule_at, value_at, entry_accepts}
-use Rattle.sketch.specs.Sketch.{features_of, rules_of}
-use Rattle.sketch.specs.declared.feature.Feature.{Feature}
+-- What the code reads of a sketch, as the definitions say it of the lists. Assumes nothing.
+use Rattle.std.proofs.Common.{◌≡◌, ℕ, zero, suc, ◌+◌, ◌<◌, ◌≤◌, List, length, get_or, sym, ◌∙◌, subst, ⊎_elim, arith}
+use Rattle.std.proofs.lemmas.Bool.{cases_eq}
+use Rattle.std.proofs.lemmas.List.{length-map, length-take}
+use Rattle.std.specs.Array.{IsFromFnResultFrom}
+use denote.Param.Members.{Mut, Called}
+use Rattle.sketch.specs.Below.{every_below, some_below}
+use Rattle.sketch.specs.Feature.{value_of}
+use Rattle.sketch.specs.Rule.{kind_at, entry_at, rule_at, value_at, entry_accepts, accepts, steps}
 use Rattle.sketch.specs.declared.feature.Kind.{Kind}
-use Rattle.sketch.specs.declared.rule.Entry.{Entry}
 use Rattle.sketch.specs.declared.rule.Rule.{Rule}
 use Rattle.sketch.specs.declared.sketch.Sketch.{Sketch}
-use Rattle.sketch.proofs.Seen.{kind_read, length_kinds}
+use Rattle.sketch.specs.Sketch.{features_of, valuation}
 
-pub value_read : (s : Sketch) (truths : List ℕ) (i : ℕ) (d : Feature) → i < s.feature_count
-    → value_of (get_or s.features i d) truths ≡ value_at (values_of (features_of s) truths) i
-value_read s truths i d h =
-    ap (λ (f : Feature). value_of f truths) (sym (get_or-take s.feature_count s.features i d h))
-    ∙ sym (get_or-map (λ f. value_of f truths) (features_of s) i d 0 (omega (arith, s.features_counted)))
+-- valuations that read the same are accepted alike
+accepts_same : (ks : List Kind) (r : Rule) (v v' w w' : List ℕ) → ((i : ℕ) → value_at v i ≡ value_at v' i) → ((i : ℕ) → value_at w i ≡ value_at w' i)
+    → accepts ks r v w ≡ accepts ks r v' w'
+unfolding accepts
+accepts_same ks r v v' w w' p q i = every_below (λ f. entry_accepts (kind_at ks f) (entry_at r f) (p f i) (q f i)) (length ks)
 
-pub value_past : (s : Sketch) (truths : List ℕ) (i : ℕ) → s.feature_count ≤ i → value_at (values_of (features_of s) truths) i ≡ 0
-value_past s truths i h =
-    get_or_past (values_of (features_of s) truths) i 0 (omega (arith, length-map (features_of s) (λ f. value_of f truths), s.features_counted))
+pub steps_same : (ks : List Kind) (rs : List Rule) (v v' w w' : List ℕ) → ((i : ℕ) → value_at v i ≡ value_at v' i) → ((i : ℕ) → value_at w i ≡ value_at w' i)
+    → steps ks rs v w ≡ steps ks rs v' w'
+unfolding steps
+steps_same ks rs v v' w w' p q i = some_below (λ k. accepts_same ks (rule_at rs k) v v' w w' p q i) (length rs)
 
-pub values_more : (fs : List Feature) (truths vs : List ℕ) (i v : ℕ) (d : Feature) → i < length fs → i < 8 → length vs ≡ 8
-    → v ≡ value_of (get_or fs i d) truths → take i vs ≡ values_of (take i fs) truths
-    → (length (set vs i v) ≡ 8) × (take (i + 1) (set vs i v) ≡ values_of (take (i + 1) fs) truths)
-values_more fs truths vs i v d h few long e front = (
-  length-set vs i v ∙ long,
-  take_more_set vs i v (omega arith) ∙ ap₂ (λ (xs : List ℕ) (x : ℕ). xs ++ (x ∷ [])) front e ∙ sym (map_more (λ f. value_of f truths) fs i d h),
-)
+-- what a call for each index from i on has made, where the calls answer v and change nothing
+pub each_made : {F B : Type 0} (g : Mut F (ℕ × Unit {0}) B) (f : F) (v : ℕ → B) → ((k : ℕ) (y : B) (q : F) → Called g f (k, tt) y q → (q ≡ f) × (y ≡ v k))
+    → (ys : List B) (d : B) (i n : ℕ) → IsFromFnResultFrom g f ys i n → (k : ℕ) → i ≤ k → k < i + n → get_or ys k d ≡ v k
+each_made g f v says ys d i zero made k h l = absurd (omega arith)
+each_made g f v says ys d i (suc n) made k h l =
+    let call = says i made.1 made.0 made.3 in
+    ⊎_elim
+    (λ e. subst (λ (j : ℕ). get_or ys j d ≡ v j) (sym e) (made.2.1 d ∙ call.1))
+    (λ ne. each_made g f v says ys d (i + 1) n (subst (λ q. IsFromFnResultFrom g q ys (i + 1) n) call.0 made.4) k (omega arith) (omega arith))
+    (cases_eq k i)
 
-same_entry : {k k' : Kind} {e e' : Entry} {v v' w w' : ℕ} → k ≡ k' → e ≡ e' → v ≡ v' → w ≡ w' → entry_accepts k e v w ≡ entry_accepts k' e' v' w'
-same_entry p q r t i = entry_accepts (p i) (q i) (r i) (t i)
-
-pub entry_read : (s : Sketch) (i f : ℕ) (before after : List ℕ) (d : Feature) → i < s.rule_count → f < s.feature_count
-    → entry_accepts (get_or s.features f d).kind (entry_at (rule_at s.rules i) f) (value_at before f) (value_at after f)
-    ≡ entry_accepts (kind_at (kinds_of (features_of s)) f) (entry_at (rule_at (rules_of s) i) f)
-    (value_at (take s.feature_count before) f) (value_at (take s.feature_count after) f)
-entry_read s i f before after d h l =
-    same_entry
-    (ap (λ (x : Feature). x.kind) (sym (get_or-take s.feature_count s.features f d l))
-    ∙ kind_read (features_of s) f d (omega (arith, s.features_counted)))
-    (ap (λ (r : Rule). entry_at r f) (sym (get_or-take s.rule_count s.rules i idle h)))
-    (sym (get_or-take s.feature_count before f 0 l))
-    (sym (get_or-take s.feature_count after f 0 l))
-
-pub kinds_count : (s : Sketch) → length (kinds_of (features_of s)) ≡ s.feature_count
-kinds_count s = length_kinds (features_of s) ∙ s.features_counted
+pub few_values : (s : Sketch) (truths : List ℕ) → length (valuation s truths) ≤ 8
+few_values s truths = omega (arith, length-map (features_of s) (λ f. value_of f truths), length-take s.features.count s.features.items, s.features.few)

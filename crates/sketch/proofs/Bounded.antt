@@ -1,7 +1,7 @@
 -- What the tests over the numbers below n tell. Assumes nothing.
-use Rattle.std.proofs.Common.{◌≡◌, ℕ, zero, suc, ◌<◌, ◌≤◌, Bool, true, false, cond, Decides, refl, ⊎_elim, arith}
+use Rattle.std.proofs.Common.{◌≡◌, ℕ, zero, suc, ◌<◌, ◌≤◌, Bool, true, false, cond, Decides, Option, Some, None, MatchOption, refl, sym, ⊎_elim, arith}
 use Rattle.std.proofs.lemmas.Bool.{cases_Bool, both_ways, cases_lt}
-use Rattle.std.proofs.lemmas.Bool.Decides.{Decides-below_and, Decides-below_or}
+use Rattle.std.proofs.lemmas.Bool.Decides.{Decides-below_and, Decides-below_or, same_from_decides}
 use Rattle.sketch.specs.Below.{every_below, some_below, lowest}
 
 itself : (b : Bool) → Decides b (b ≡ true)
@@ -73,3 +73,16 @@ lowest_is p n m h before here = ⊎_elim
     (λ l2. omega arith)
     (cases_lt (lowest p n) m))
     (cases_lt m (lowest p n))
+
+-- an answer that says what such a test says is that test
+pub every_is : (p : ℕ → Bool) (n : ℕ) (r : Bool) → Decides r ((k : ℕ) → k < n → p k ≡ true) → r ≡ every_below p n
+every_is p n r h = same_from_decides r (every_below p n) h (decides_every p n)
+
+pub some_is : (p : ℕ → Bool) (n : ℕ) (r : Bool) → Decides r ((k : ℕ) × (k < n) × (p k ≡ true)) → r ≡ some_below p n
+some_is p n r h = same_from_decides r (some_below p n) h (decides_some p n)
+
+pub lowest_found : (p : ℕ → Bool) (n : ℕ) (r : Option ℕ)
+    → MatchOption r ((k : ℕ) → k < n → p k ≡ false) (λ i. (i < n) × (p i ≡ true) × ((k : ℕ) → k < i → p k ≡ false))
+    → MatchOption r (lowest p n ≡ n) (λ i. (i < n) × (lowest p n ≡ i))
+lowest_found p n None h = sym (lowest_is p n n (omega arith) h (λ l. absurd (omega arith)))
+lowest_found p n (Some i) h = (h.0, sym (lowest_is p n i (omega arith) h.2 (λ _. h.1)))

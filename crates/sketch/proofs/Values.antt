@@ -1,5 +1,5 @@
 -- The values of features: by the members of sets of atoms, and their bounds. Assumes nothing.
-use Rattle.std.proofs.Common.{◌≡◌, ℕ, ◌<◌, ◌≤◌, Bool, true, false, cond, not, ◌&&◌, ltb, List, [], ◌∷◌, length, get_or, count_by, filter, sym, refl, ap, ◌∙◌, arith}
+use Rattle.std.proofs.Common.{◌≡◌, ℕ, zero, suc, ◌<◌, ◌≤◌, min, Bool, true, false, cond, not, ◌&&◌, ltb, List, [], ◌∷◌, length, get_or, count_by, filter, sym, refl, ap, ◌∙◌, arith}
 use Rattle.std.proofs.lemmas.List.{get_or-map}
 use Rattle.std.proofs.lemmas.List.Sums.{length-filter, count_by-le-length}
 use Rattle.std.proofs.lemmas.Bool.{false≢true}
@@ -36,6 +36,11 @@ count_true s t r both = count_part s r (among (members t)) (λ a. both a ∙ ap 
 pub count_false : (s t r : AtomSet) → ((a : ℕ) → has r a ≡ (has s a && not (has t a))) → length (members r) ≡ false_count (members s) (members t)
 count_false s t r both = count_part s r (λ a. not (among (members t) a)) (λ a. both a ∙ ap (λ b. has s a && not b) (sym (among_members t a)))
 
+-- a count taken as a Boolean's value
+pub at_most_one : (n : ℕ) → min n 1 ≡ cond (ltb 0 n) 1 0
+at_most_one zero = refl
+at_most_one (suc n) = grind arith
+
 counted_le : (k : Kind) (atoms truths : List ℕ) → counted k atoms truths ≤ largest k atoms
 counted_le Boolean atoms truths = go (ltb 0 (true_count atoms truths))
   where
@@ -47,6 +52,12 @@ counted_le FalseCount atoms truths = count_by-le-length (λ a. not (among truths
 
 pub value_le_top : (f : Feature) (truths : List ℕ) → value_of f truths ≤ top_of f
 value_le_top f truths = counted_le f.kind (members f.atoms) truths
+
+-- a count by the kind of a feature is its value, and so at most the largest
+pub is_value : (f : Feature) (k : Kind) (truths : List ℕ) (n : ℕ) → f.kind ≡ k → n ≡ counted k (members f.atoms) truths
+    → (n ≡ value_of f truths) × (n ≤ top_of f)
+is_value f k truths n same e =
+    let v = e ∙ sym (ap (λ (x : Kind). counted x (members f.atoms) truths) same) in (v, omega (arith, v, value_le_top f truths))
 
 pub value_fits : (f : Feature) (truths : List ℕ) → Fitting f.kind (value_of f truths)
 value_fits f truths = go f.kind

@@ -1,16 +1,17 @@
 -- The features and the rules of a sketch. Assumes nothing.
-use Rattle.std.specs.Prelude.{◌≡◌, ℕ, suc, ◌<◌, ◌≤◌, Bool, true, List, take, ◌≢◌}
+use Rattle.std.specs.Prelude.{◌≡◌, ℕ, suc, ◌<◌, ◌≤◌, Bool, true, List, ◌≢◌}
 use Rattle.sketch.specs.Feature.{kinds_of, values_of}
+use Rattle.sketch.specs.Held.{list_of}
 use Rattle.sketch.specs.Rule.{steps}
 use Rattle.sketch.specs.declared.feature.Feature.{Feature}
 use Rattle.sketch.specs.declared.rule.Rule.{Rule}
 use Rattle.sketch.specs.declared.sketch.Sketch.{Sketch}
 
 abbrev pub features_of : Sketch → List Feature
-features_of s = take s.feature_count s.features
+features_of s = list_of s.features
 
 abbrev pub rules_of : Sketch → List Rule
-rules_of s = take s.rule_count s.rules
+rules_of s = list_of s.rules
 
 -- the values of its features where the atoms of the list are the true ones
 abbrev pub valuation : Sketch → List ℕ → List ℕ

@@ -1,7 +1,7 @@
 // A feature: a number read off the true atoms of a state.
-ghost use Rattle.std.specs.Prelude.{◌≡◌, ◌≤◌, length};
+ghost use Rattle.std.specs.Prelude.{◌≡◌, ◌≤◌};
 ghost use Rattle.domain.specs.Atoms.{members};
-ghost use Rattle.sketch.specs.Feature.{true_count, false_count, value_of, top_of, unnamed_feature};
+ghost use Rattle.sketch.specs.Feature.{value_of, top_of, unnamed_feature};
 ghost use Rattle.sketch.specs.Kind.{kind_char, kind_named, boolean};
 ghost use Rattle.sketch.specs.Letter.{Reads, Writes};
 
@@ -49,10 +49,7 @@ impl Kind {
     pub fn is_boolean(self) -> bool
         ensures { result ≡ boolean self }
     {
-        match self {
-            Kind::Boolean => true,
-            Kind::TrueCount | Kind::FalseCount => false,
-        }
+        matches!(self, Kind::Boolean)
     }
 }
 
@@ -63,7 +60,7 @@ pub struct Feature {
 }
 
 impl Feature {
-    // The feature that is not named: it counts no atoms.
+    // The feature that is not named: it counts no atoms. A const, which `Default` cannot be.
     pub const fn blank() -> Feature
         ensures { result ≡ unnamed_feature }
     {
@@ -73,30 +70,15 @@ impl Feature {
         }
     }
 
-    // How many atoms of the set are true, and how many are not.
-    fn true_count(&self, truths: &AtomSet) -> usize
-        ensures counts { result ≡ true_count (members self.now.atoms) (members truths.now) }
-        ensures below { result ≤ length (members self.now.atoms) }
-    {
-        self.atoms.intersection(truths).count()
-    }
-
-    fn false_count(&self, truths: &AtomSet) -> usize
-        ensures counts { result ≡ false_count (members self.now.atoms) (members truths.now) }
-        ensures below { result ≤ length (members self.now.atoms) }
-    {
-        self.atoms.difference(truths).count()
-    }
-
     // The feature's value where the atoms of `truths` are the true ones.
     pub fn value(&self, truths: &AtomSet) -> usize
         ensures counts { result ≡ value_of self.now (members truths.now) }
         ensures below { result ≤ top_of self.now }
     {
         match self.kind {
-            Kind::Boolean => { if self.true_count(truths) > 0 { 1 } else { 0 } }
-            Kind::TrueCount => self.true_count(truths),
-            Kind::FalseCount => self.false_count(truths),
+            Kind::Boolean => self.atoms.intersection(truths).count().min(1),
+            Kind::TrueCount => self.atoms.intersection(truths).count(),
+            Kind::FalseCount => self.atoms.difference(truths).count(),
         }
     }
 

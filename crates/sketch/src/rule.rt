@@ -127,7 +127,7 @@ impl Effect {
 }
 
 impl Rule {
-    // The rule that names no feature.
+    // The rule that names no feature. A const, which `Default` cannot be.
     pub const fn blank() -> Rule
         ensures { result ≡ unnamed }
     {
@@ -145,53 +145,38 @@ impl Entry {
     pub fn is_silent(&self) -> bool
         ensures { result ≡ silent self.now }
     {
-        match (self.when, self.then) {
-            (Condition::Any, Effect::Same) => true,
-            _ => false,
-        }
+        self.when == Condition::Any && self.then == Effect::Same
     }
 
     // The rule lowers the feature whenever it is taken.
     pub fn surely_lowers(&self, kind: Kind) -> bool
         ensures { result ≡ surely_lowers kind self.now }
     {
-        match (self.when, self.then) {
-            (Condition::Positive, Effect::Down) => true,
-            (_, Effect::Down) => !kind.is_boolean(),
-            _ => false,
-        }
+        self.then == Effect::Down && (!kind.is_boolean() || self.when == Condition::Positive)
     }
 
     // The rule raises the feature, a Boolean, whenever it is taken.
     pub fn surely_raises(&self, kind: Kind) -> bool
         ensures { result ≡ surely_raises kind self.now }
     {
-        match (self.when, self.then) {
-            (Condition::Zero, Effect::Up) => kind.is_boolean(),
-            _ => false,
-        }
+        kind.is_boolean() && self.when == Condition::Zero && self.then == Effect::Up
     }
 
     // The rule can be taken so that the feature rises.
     pub fn may_raise(&self, kind: Kind) -> bool
         ensures { result ≡ may_raise kind self.now }
     {
-        match (self.when, self.then) {
-            (Condition::Positive, Effect::Up | Effect::Free) => !kind.is_boolean(),
-            (_, Effect::Up | Effect::Free) => true,
-            _ => false,
-        }
+        matches!(self.then, Effect::Up | Effect::Free)
+            && !(kind.is_boolean() && self.when == Condition::Positive)
     }
 
     // The rule can be taken so that the feature, a Boolean, falls.
     pub fn may_lower(&self, kind: Kind) -> bool
         ensures { result ≡ may_lower kind self.now }
     {
-        match (self.when, self.then) {
-            (Condition::Zero, _) => false,
-            (_, Effect::Down | Effect::Free) => kind.is_boolean(),
-            _ => false,
-        }
+        kind.is_boolean()
+            && matches!(self.then, Effect::Down | Effect::Free)
+            && self.when != Condition::Zero
     }
 
     // The entry moves the feature one way, and no rule that is left moves it back: `raised` and `lowered` tell whether one

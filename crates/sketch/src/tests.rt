@@ -8,29 +8,26 @@ use domain::refusal::Refusal;
 use std::test::Fail;
 
 fn of_kind(kind: Kind) -> Feature {
-    let mut atoms = AtomSet::empty();
-    atoms.insert(3);
-    atoms.insert(200);
-    Feature { kind, atoms }
+    Feature {
+        kind,
+        atoms: AtomSet::of(&[3, 200]),
+    }
 }
 
 // Conditions and effects of the first four features by their characters.
 fn rule(whens: [char; 4], thens: [char; 4]) -> Option<Rule> {
     let mut rule = Rule::blank();
-    for f in 0..4 {
-        rule.entries[f] = Entry {
-            when: Condition::try_from(whens[f]).ok()?,
-            then: Effect::try_from(thens[f]).ok()?,
+    for (entry, (when, then)) in rule.entries.iter_mut().zip(whens.into_iter().zip(thens)) {
+        *entry = Entry {
+            when: Condition::try_from(when).ok()?,
+            then: Effect::try_from(then).ok()?,
         };
     }
     Some(rule)
 }
 
 fn refusal(features: &[Feature], rules: &[Rule]) -> Option<Refusal> {
-    match Sketch::new(features, rules) {
-        Ok(_) => None,
-        Err(refusal) => Some(refusal),
-    }
+    Sketch::new(features, rules).err()
 }
 
 #[test]
@@ -87,13 +84,9 @@ fn refused_before_the_sieve(rt: HostRuntime) -> Result<(), Fail> {
 fn values_and_steps(rt: HostRuntime) -> Result<(), Fail> {
     let falls = rule(['+', '.', '.', '.'], ['-', '?', '=', '=']).ok_or("form")?;
     let features = [of_kind(Kind::TrueCount), of_kind(Kind::Boolean)];
-    let Ok(sketch) = Sketch::new(&features, &[falls]) else {
-        return Err(Fail::new("refused"));
-    };
+    let sketch = Sketch::new(&features, &[falls]).ok().ok_or("refused")?;
     let empty = AtomSet::empty();
-    let mut one = empty;
-    one.insert(200);
-    one.insert(7);
+    let one = AtomSet::of(&[200, 7]);
     assert_eq!(rt; sketch.feature_count(), 2);
     assert_eq!(rt; sketch.value(0, &one), 1);
     assert_eq!(rt; sketch.value(1, &one), 1);

@@ -1,5 +1,5 @@
 // How a sketch is made: only from features and rules that the sieve accepts.
-ghost use Rattle.std.specs.Prelude.{◌≡◌, ◌≤◌, length, IfOk, Some, None, MatchResult};
+ghost use Rattle.std.specs.Prelude.{◌≡◌, ◌<◌, ◌≤◌, length, IfOk, Some, None, MatchOption, MatchResult};
 ghost use Rattle.sketch.specs.Fault.{rule_fits, first_unfit, sketch_fault};
 ghost use Rattle.sketch.specs.Feature.{kinds_of};
 ghost use Rattle.sketch.specs.Laws.{NoReturn, NoStandstill};
@@ -7,7 +7,7 @@ ghost use Rattle.sketch.specs.Sieve.{rules_left};
 ghost use Rattle.sketch.specs.Sketch.{features_of, rules_of};
 
 use crate::feature::Feature;
-use crate::held::hold_first;
+use crate::held::Held;
 use crate::rule::Rule;
 use crate::sieve;
 use crate::sketch::Sketch;
@@ -17,24 +17,17 @@ use domain::refusal::Refusal;
 fn fits(count: usize, rule: &Rule) -> bool
     ensures { result ≡ rule_fits count rule.now }
 {
-    for feature in count..8 {
-        if !rule.entries[feature].is_silent() {
-            return false;
-        }
-    }
-    true
+    rule.entries
+        .iter()
+        .skip(count)
+        .all(|entry| entry.is_silent())
 }
 
-// The lowest rule that does not fit; the number of rules where all do.
-fn find_unfit(count: usize, rules: &[Rule]) -> usize
-    ensures { result ≡ first_unfit count rules.now }
+// The lowest rule that does not fit.
+fn find_unfit(count: usize, rules: &[Rule]) -> Option<usize>
+    ensures { MatchOption result (first_unfit count rules.now ≡ length rules.now) (λ i. (i < length rules.now) × (first_unfit count rules.now ≡ i)) }
 {
-    for i in 0..rules.len() {
-        if !fits(count, &rules[i]) {
-            return i;
-        }
-    }
-    rules.len()
+    rules.iter().position(|rule| !fits(count, rule))
 }
 
 // The sketch of features and rules that the sieve accepts: along its rules no run returns.
@@ -46,10 +39,8 @@ fn hold(features: &[Feature], rules: &[Rule]) -> Sketch
     ensures no_standstill { NoStandstill (kinds_of (features_of result)) (rules_of result) }
 {
     Sketch {
-        features: hold_first(features, Feature::blank()),
-        feature_count: features.len(),
-        rules: hold_first(rules, Rule::blank()),
-        rule_count: rules.len(),
+        features: Held::first(features, Feature::blank()),
+        rules: Held::first(rules, Rule::blank()),
     }
 }
 
@@ -61,9 +52,8 @@ impl Sketch {
         ensures no_return { IfOk result (λ s. NoReturn (kinds_of (features_of s)) (rules_of s)) }
         ensures no_standstill { IfOk result (λ s. NoStandstill (kinds_of (features_of s)) (rules_of s)) }
     {
-        let unfit = find_unfit(features.len(), rules);
-        if unfit < rules.len() {
-            return Err(Refusal::Range { place: unfit });
+        if let Some(place) = find_unfit(features.len(), rules) {
+            return Err(Refusal::Range { place });
         }
         if features.len() > 8 {
             return Err(Refusal::Limit { place: 8 });

@@ -1,22 +1,16 @@
-use Rattle.std.proofs.Common.{sym, ◌∙◌, arith, below_more}
-use Rattle.sketch.specs.Rule.{accepts}
-use Rattle.sketch.proofs.Asked.{entry_read, kinds_count}
-use Rattle.sketch.proofs.Bounded.{every_from, not_every}
+use Rattle.std.proofs.Common.{length, rules}
+use Rattle.std.proofs.iter.runs.Made.{chains}
+use Rattle.sketch.specs.Feature.{kinds_of}
+use Rattle.sketch.specs.Rule.{accepts, kind_at, entry_at, value_at, entry_accepts}
+use Rattle.sketch.specs.Sketch.{features_of}
+use Rattle.sketch.proofs.Bounded.{every_is}
+use Rattle.sketch.proofs.Seen.{kind_read, length_kinds}
 use Rattle.sketch.proofs.sketch.Sketch.rule_accepts.Goals as goal
-
-pub loop-f-preserved : goal.loop-f-preserved
-loop-f-preserved c =
-    below_more _ _ c.loop-f.invariant
-    (sym (entry_read c.args.self.now c.args.i c.loop-f.f c.args.before.now c.args.after.now _ c.requires c.loop-f-test.true)
-    ∙ sym c.accepts.ensures ∙ c.if-not-accepts.false)
-
-pub returns-then-not-accepts : goal.returns-then-not-accepts
-unfolding accepts
-returns-then-not-accepts c =
-    sym (not_every _ _ c.loop-f.f (omega (arith, kinds_count c.args.self.now))
-    (sym (entry_read c.args.self.now c.args.i c.loop-f.f c.args.before.now c.args.after.now _ c.requires c.loop-f-test.true)
-    ∙ sym c.accepts.ensures ∙ c.if-not-accepts.true))
 
 pub returns : goal.returns
 unfolding accepts
-returns c = sym (every_from _ _ (λ k h. c.loop-f.invariant k (omega (arith, kinds_count c.args.self.now))))
+returns c =
+    let ks = kinds_of (features_of c.args.self.now) in
+    let r = c.args.rule.now in
+    every_is (λ f. entry_accepts (kind_at ks f) (entry_at r f) (value_at c.args.before.now f) (value_at c.args.after.now f)) (length ks) _
+    (search (rules, chains, kind_read, length_kinds))

@@ -1,23 +1,18 @@
-use Rattle.std.proofs.Common.{◌≡◌, ℕ, take, sym, ap, ◌∙◌, arith}
-use Rattle.std.proofs.lemmas.List.{length-take}
+use Rattle.std.proofs.Common.{rules, arith, sym, ◌∙◌, ⊎_elim}
+use Rattle.std.proofs.lemmas.Bool.{cases_lt}
+use Rattle.std.proofs.lemmas.List.{get_or_past}
+use Rattle.sketch.specs.Rule.{value_at}
+use Rattle.sketch.specs.Sketch.{valuation}
 use Rattle.domain.specs.Atoms.{members}
-use Rattle.sketch.specs.Feature.{values_of}
-use Rattle.sketch.proofs.Asked.{values_more}
+use Rattle.sketch.proofs.Asked.{each_made, few_values}
 use Rattle.sketch.proofs.sketch.Sketch.values.Goals as goal
 
-pub loop-i-preserved : goal.loop-i-preserved
-loop-i-preserved c =
-    let s = c.args.self.now in
-    values_more s.features (members c.args.truths.now) c.loop-i.values c.loop-i.i c.value.result _
-    (omega (arith, s.features_counted, length-take s.feature_count s.features)) (omega (arith, s.few_features)) c.loop-i.invariant.0 c.value.ensures.counts c.loop-i.invariant.1
-
 pub returns : goal.returns
-returns c =
-    let s = c.args.self.now in
-    let end : c.loop-i.i ≡ s.feature_count = omega arith in
-    record {
-      size = c.loop-i.invariant.0;
-      front =
-          ap (λ (n : ℕ). take n c.loop-i.values) (sym end) ∙ c.loop-i.invariant.1
-          ∙ ap (λ (n : ℕ). values_of (take n s.features) (members c.args.truths.now)) end;
-    }
+returns c i =
+    let truths = members c.args.truths.now in
+    let v = valuation c.args.self.now truths in
+    let made = c.from_fn.ensures.items in
+    ⊎_elim
+    (λ h. each_made _ _ (value_at v) (λ k y q e. search rules) _ 0 0 8 made.each i (omega arith) (omega arith))
+    (λ h. get_or_past _ i 0 (omega (arith, made.long)) ∙ sym (get_or_past v i 0 (omega (arith, few_values c.args.self.now truths))))
+    (cases_lt i 8)

@@ -1,17 +1,11 @@
-use Rattle.std.proofs.Common.{sym, ◌∙◌, arith, below_more}
-use Rattle.std.proofs.lemmas.Bool.{not_from_true, not_from_false}
-use Rattle.sketch.specs.Fault.{first_unfit}
-use Rattle.sketch.proofs.Bounded.{lowest_is}
+use Rattle.std.proofs.Common.{length, not, rules}
+use Rattle.std.proofs.iter.runs.Made.{chains}
+use Rattle.sketch.specs.Fault.{rule_fits, first_unfit}
+use Rattle.sketch.specs.Rule.{rule_at}
+use Rattle.sketch.proofs.Bounded.{lowest_found}
 use Rattle.sketch.proofs.sketch.make.find_unfit.Goals as goal
-
-pub loop-i-preserved : goal.loop-i-preserved
-loop-i-preserved c = below_more _ _ c.loop-i.invariant (not_from_true _ (sym c.fits.ensures ∙ c.if-not-fits.false))
-
-pub returns-then-not-fits : goal.returns-then-not-fits
-unfolding first_unfit
-returns-then-not-fits c =
-    lowest_is _ _ c.loop-i.i (omega arith) c.loop-i.invariant (λ _. not_from_false _ (sym c.fits.ensures ∙ c.if-not-fits.true))
 
 pub returns : goal.returns
 unfolding first_unfit
-returns c = lowest_is _ _ _ (omega arith) (λ k h. c.loop-i.invariant k (omega arith)) (λ h. absurd (omega arith))
+returns c =
+    lowest_found (λ i. not (rule_fits c.args.count (rule_at c.args.rules.now i))) (length c.args.rules.now) _ (search (rules, chains))
