@@ -1,8 +1,8 @@
 -- The way back by links, one link at a time. Assumes nothing.
-use Rattle.std.proofs.Common.{◌≡◌, ℕ, zero, suc, ◌<◌, ◌≤◌, Bool, true, false, cond, ltb, List, [], ◌∷◌, ◌++◌, length, get_or, take, sym, refl, ap, ◌∙◌, subst, ap₂, ⊎_elim, not-suc-le-zero, add-one, arith}
+use Rattle.std.proofs.Common.{◌≡◌, ℕ, zero, suc, ◌<◌, ◌≤◌, Bool, true, false, cond, ltb, List, [], ◌∷◌, ◌++◌, length, get_or, take, Some, None, sym, refl, ap, ◌∙◌, subst, ap₂, ⊎_elim, not-suc-le-zero, add-one, arith}
 use Rattle.std.proofs.lemmas.List.{get_or-map, length_push, length-take-le, take-take, take_at}
-use Rattle.std.proofs.lemmas.Bool.{cases_lt, ltb-true, lt-ltb, le-ltb, cond-true, cond-false}
-use Rattle.planner.specs.Way.{parent_of, action_of, way_to, root}
+use Rattle.std.proofs.lemmas.Bool.{cases_lt, ltb-true, ltb-false, lt-ltb, le-ltb, cond-true, cond-false}
+use Rattle.planner.specs.Way.{parent_of, action_of, lower, way_to, root}
 use Rattle.planner.specs.declared.node.Node.{Node}
 
 module _ {S : Type 0} (nodes : List (Node S)) where
@@ -45,6 +45,23 @@ module _ {S : Type 0} (nodes : List (Node S)) where
           → cond t (root nodes n (parent_of nodes (suc i))) (suc i) ≡ cond t (root nodes k (parent_of nodes (suc i))) (suc i)
       go true e same = same e
       go false e same = refl
+
+  -- a link that is taken leads to its parent, which is lower,
+  pub lower_some : (i p : ℕ) → lower nodes i ≡ Some p → (parent_of nodes i ≡ p) × (parent_of nodes i < i)
+  lower_some i p taken = go (ltb (parent_of nodes i) i) refl taken
+    where
+      go : (t : Bool) → ltb (parent_of nodes i) i ≡ t → cond t (Some (parent_of nodes i)) None ≡ Some p
+          → (parent_of nodes i ≡ p) × (parent_of nodes i < i)
+      go true e is = (cc, ltb-true (parent_of nodes i) i e)
+      go false e is = absurd cc
+
+  -- and one that is not taken does not
+  pub lower_none : (i : ℕ) → lower nodes i ≡ None → i ≤ parent_of nodes i
+  lower_none i ends = go (ltb (parent_of nodes i) i) refl ends
+    where
+      go : (t : Bool) → ltb (parent_of nodes i) i ≡ t → cond t (Some (parent_of nodes i)) None ≡ None → i ≤ parent_of nodes i
+      go true e is = absurd cc
+      go false e is = ltb-false (parent_of nodes i) i e
 
   -- a link to a lower number is taken
   pub way_to_lower : (i : ℕ) → parent_of nodes i < i

@@ -14,6 +14,10 @@ module _ {S : Type 0} (nodes : List (Node S)) where
   abbrev pub action_of : ℕ → ℕ
   action_of i = slice_index (map (λ n. n.action) nodes) i
 
+  -- the number that the link of i leads to, if it is a lower one
+  abbrev pub lower : ℕ → Option ℕ
+  lower i = cond (nat_lt (parent_of i) i) (Some (parent_of i)) None
+
   -- The actions of the links from number i back to 0, or to a link that is not to a lower number, which is not
   -- taken; in the order of the way. The first number bounds the steps: i is enough.
   unfoldable pub way_to : ℕ → ℕ → List ℕ

@@ -1,6 +1,6 @@
 // What a search keeps and what it replies.
 ghost use Rattle.std.specs.Prelude.{◌≡◌};
-ghost use Rattle.planner.specs.Search.{node, goes_on};
+ghost use Rattle.planner.specs.Search.{node, link, goes_on};
 
 // A kept state, with its link: the number of the state it was reached from, and the action that led here.
 #[derive(Clone, Copy, PartialEq, Eq, Debug)]
@@ -11,6 +11,16 @@ pub struct Node<S> {
 }
 
 impl<S> Node<S> {
+    // From which number the state was reached, and by which action.
+    pub(crate) fn link(&self) -> Link
+        ensures { result ≡ link self.now.parent self.now.action }
+    {
+        Link {
+            parent: self.parent,
+            action: self.action,
+        }
+    }
+
     // A node with no link, as the start has, and a place that is not used yet.
     pub fn unlinked(state: S) -> Node<S>
         ensures { result ≡ node state 0 0 }
@@ -32,6 +42,16 @@ pub struct Way {
 }
 
 impl Way {
+    // The link of its last action.
+    pub(crate) fn last(&self) -> Link
+        ensures { result ≡ link self.now.parent self.now.action }
+    {
+        Link {
+            parent: self.parent,
+            action: self.action,
+        }
+    }
+
     // How many actions the way has.
     pub fn length(&self) -> usize
         ensures { result ≡ self.now.length }
