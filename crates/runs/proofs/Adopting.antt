@@ -10,7 +10,7 @@ use Rattle.planner.specs.Way.{root, actions_of, way_holds, way_fault, written_re
 use Rattle.planner.specs.declared.node.Node.{Node}
 use Rattle.planner.specs.declared.node.Way.{Way}
 use Rattle.runs.specs.Run.{View}
-use Rattle.runs.specs.Calls.{unless, told, handed, placed, claims, key_count, found_way, way_actions, way_length, subgoal, segment_fault, adopt_by, adopt_fault, adopted_run}
+use Rattle.runs.specs.Calls.{unless, told, placed, claims, key_count, found_way, way_actions, way_length, subgoal, segment_fault, adopt_by, adopt_fault, adopted_run}
 use Rattle.runs.specs.declared.claim.Phase.TheVariants.{Met}
 use Rattle.runs.proofs.Replies.{told_fault, no_refusal, passed, not_broken}
 
@@ -152,9 +152,6 @@ module _ {S M : Type 0} (v : View S M) (number : ℕ) (nodes : List (Node S)) (p
 
   pub room_for : v.length + n ≤ min (length plan) 4096
   room_for = let e = (told_fault _ x n ok).1 ∙ is ∙ ap way_length fine.found in let r = fine.room in omega arith
-
-  pub reply_ok : {C : Type 0} (c : C) → Ok n ≡ handed (adopt_fault v number nodes (length plan)) c x
-  reply_ok c = ap Ok (told_fault _ x n ok).1 ∙ sym (ap (λ f. handed f c x) no_fault)
 
   pub run_ok : (w : View S M) (now_plan : List ℕ)
       → now_plan ≡ unless (adopt_fault v number nodes (length plan)) plan (placed plan v.length (way_actions nodes (found_way v.opened)))

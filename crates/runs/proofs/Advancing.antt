@@ -18,7 +18,6 @@ use Rattle.runs.specs.Findings.{search_task, Excluded}
 use Rattle.runs.specs.History.{Watch, Log, drained, length_in, reached, note_work, note_reply, SameStates, SameMarks, work_leaves, work_notes}
 use Rattle.runs.specs.Run.{View}
 use Rattle.runs.specs.declared.claim.Phase.TheVariants.{Working}
-use Rattle.runs.specs.declared.claim.Ticket.{Ticket}
 use Rattle.runs.proofs.Replies.{no_refusal}
 use Rattle.runs.proofs.Standing.{fair_search, Hunting, Watching, Standing, current_reached}
 
@@ -89,31 +88,31 @@ module _ {S M : Type 0} (keys : M → List ℕ → List ℕ) (total : M → ℕ)
       effort = X.effort;
     }
 
-  pub work_step : (v : View S M) (l : Log S M) → Standing keys total below some v l → (t : Ticket) (n : ℕ) (nodes : List (Node S)) (marks : List ℕ)
-      → SameStates l (work_fault v t.number (length nodes) (length marks)) nodes
-      → SameMarks l (work_fault v t.number (length nodes) (length marks)) marks
+  pub work_step : (v : View S M) (l : Log S M) → Standing keys total below some v l → (t n : ℕ) (nodes : List (Node S)) (marks : List ℕ)
+      → SameStates l (work_fault v t (length nodes) (length marks)) nodes
+      → SameMarks l (work_fault v t (length nodes) (length marks)) marks
       → Standing keys total below some (work_leaves keys total v l t n nodes marks) (work_notes keys total v l t n nodes marks)
-  work_step v l X t n nodes marks states table = go (work_fault v t.number (length nodes) (length marks)) refl states table
+  work_step v l X t n nodes marks states table = go (work_fault v t (length nodes) (length marks)) refl states table
     where
-      working : (o : Option (UnderWay M)) → v.opened ≡ o → claims o v.searches Working t.number ≡ true → (x : Option (Watch S M)) → l.watch ≡ x
+      working : (o : Option (UnderWay M)) → v.opened ≡ o → claims o v.searches Working t ≡ true → (x : Option (Watch S M)) → l.watch ≡ x
           → ((w : Watch S M) → l.watch ≡ Some w → nodes ≡ w.nodes) → ((w : Watch S M) → l.watch ≡ Some w → marks ≡ w.marks)
           → Standing keys total below some (searching v (moved o (worked_open (subgoal v) keys n o nodes marks)))
-          (note_reply x v.problem l (worked_reply v t.number (worked_open (subgoal v) keys n o nodes marks))
+          (note_reply x v.problem l (worked_reply v t (worked_open (subgoal v) keys n o nodes marks))
           (worked_open (subgoal v) keys n o nodes marks).nodes (worked_open (subgoal v) keys n o nodes marks).marks)
       working None is latest x watched ns ms = let z : ◌≡◌ {A = ℕ} 0 1 = cc in absurd (omega arith)
       working (Some u) is latest None watched ns ms =
           absurd (subst (λ o. Watching keys total below some v.problem v.sketch v.current X.lawful o None) is
           (subst (Watching keys total below some v.problem v.sketch v.current X.lawful v.opened) watched X.watching))
       working (Some u) is latest (Some w) watched ns ms =
-          worked_on_stands v l X t.number n u w
+          worked_on_stands v l X t n u w
           (subst (λ o. Watching keys total below some v.problem v.sketch v.current X.lawful o (Some w)) is
           (subst (Watching keys total below some v.problem v.sketch v.current X.lawful v.opened) watched X.watching))
           nodes marks (ns w watched) (ms w watched)
 
-      go : (f : Option Refusal) → work_fault v t.number (length nodes) (length marks) ≡ f → SameStates l f nodes → SameMarks l f marks
+      go : (f : Option Refusal) → work_fault v t (length nodes) (length marks) ≡ f → SameStates l f nodes → SameMarks l f marks
           → Standing keys total below some (unless f v (worked_run v (worked v keys n nodes marks)))
-          (note_work v.problem l (handed f t (worked_reply v t.number (worked v keys n nodes marks)))
+          (note_work v.problem l (handed f t (worked_reply v t (worked v keys n nodes marks)))
           (unless f nodes (worked v keys n nodes marks).nodes) (unless f marks (worked v keys n nodes marks).marks))
       go (Some e) is ns ms = X
       go None is ns ms =
-          working v.opened refl (ticket_latest (claims v.opened v.searches Working t.number) _ is) l.watch refl (ns refl) (ms refl)
+          working v.opened refl (ticket_latest (claims v.opened v.searches Working t) _ is) l.watch refl (ns refl) (ms refl)

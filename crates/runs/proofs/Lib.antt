@@ -6,4 +6,3 @@ pub mod Replies
 pub mod Standing
 pub mod TakingUp
 pub mod Ways
-pub mod Working

@@ -22,7 +22,6 @@ use Rattle.runs.specs.Calls.{unless, handed, placed, way_in, found_way, way_acti
 use Rattle.runs.specs.Findings.{plan_list, Alone, search_task, ShortestSegment, start_of}
 use Rattle.runs.specs.History.{Segment, Watch, Lent, Log, steps, reached, note_adopt, note_segment, SameStates, adopt_leaves, adopt_notes}
 use Rattle.runs.specs.Run.{View}
-use Rattle.runs.specs.declared.claim.Find.{Find}
 use Rattle.runs.specs.declared.claim.Phase.TheVariants.{Met}
 use Rattle.runs.proofs.Adopting.{Adoptable, adoptable, holds_long, read_back}
 use Rattle.runs.proofs.Beginning.{effort_more, open_claimed}
@@ -197,12 +196,12 @@ module _ {S M : Type 0} (keys : M → List ℕ → List ℕ) (total : M → ℕ)
       effort = effort_more v.effort (spent v.opened) w.expanded l.ended X.effort (ap spent is ∙ H.expanded);
     }
 
-  pub adopt_step : (v : View S M) (l : Log S M) → Standing keys total below some v l → (c : Find) (nodes : List (Node S)) (plan : List ℕ)
-      → SameStates l (adopt_fault v c.number nodes (length plan)) nodes
+  pub adopt_step : (v : View S M) (l : Log S M) → Standing keys total below some v l → (c : ℕ) (nodes : List (Node S)) (plan : List ℕ)
+      → SameStates l (adopt_fault v c nodes (length plan)) nodes
       → Standing keys total below some (adopt_leaves keys total v l c nodes plan) (adopt_notes keys total v l c nodes plan)
-  adopt_step v l X c nodes plan states = go (adopt_fault v c.number nodes (length plan)) refl states
+  adopt_step v l X c nodes plan states = go (adopt_fault v c nodes (length plan)) refl states
     where
-      taking : Adoptable v c.number nodes (length plan) → (u : UnderWay M) → v.opened ≡ Some u → (x : Option (Watch S M)) → l.watch ≡ x
+      taking : Adoptable v c nodes (length plan) → (u : UnderWay M) → v.opened ≡ Some u → (x : Option (Watch S M)) → l.watch ≡ x
           → ((w : Watch S M) → l.watch ≡ Some w → nodes ≡ w.nodes)
           → Standing keys total below some (adopted_run v (way_actions nodes (found_way v.opened)) (way_length (found_way v.opened)))
           (note_segment x v.problem l (way_length (found_way v.opened)) plan (placed plan v.length (way_actions nodes (found_way v.opened))))
@@ -210,17 +209,17 @@ module _ {S M : Type 0} (keys : M → List ℕ → List ℕ) (total : M → ℕ)
           absurd (subst (λ o. Watching keys total below some v.problem v.sketch v.current X.lawful o None) is
           (subst (Watching keys total below some v.problem v.sketch v.current X.lawful v.opened) watched X.watching))
       taking A u is (Some w) watched ns =
-          adopted_stands v l X c.number u is w
+          adopted_stands v l X c u is w
           (subst (λ o. Watching keys total below some v.problem v.sketch v.current X.lawful o (Some w)) is
           (subst (Watching keys total below some v.problem v.sketch v.current X.lawful v.opened) watched X.watching))
           nodes plan (ns w watched) A
 
-      go : (f : Option Refusal) → adopt_fault v c.number nodes (length plan) ≡ f → SameStates l f nodes
+      go : (f : Option Refusal) → adopt_fault v c nodes (length plan) ≡ f → SameStates l f nodes
           → Standing keys total below some (unless f v (adopted_run v (way_actions nodes (found_way v.opened)) (way_length (found_way v.opened))))
           (note_adopt v.problem l (handed f c (way_length (found_way v.opened))) plan
           (unless f plan (placed plan v.length (way_actions nodes (found_way v.opened)))))
       go (Some e) is ns = X
       go None is ns =
-          let A = adoptable v c.number nodes (length plan) is in
-          let o = open_claimed v.opened v.searches c.number Met A.latest in
+          let A = adoptable v c nodes (length plan) is in
+          let o = open_claimed v.opened v.searches c Met A.latest in
           taking A o.0 o.1 l.watch refl (ns refl)

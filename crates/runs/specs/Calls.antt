@@ -15,7 +15,6 @@ use Rattle.planner.specs.declared.node.Way.{Way}
 use Rattle.runs.specs.Run.{View}
 use Rattle.runs.specs.declared.claim.Phase.{Phase}
 use Rattle.runs.specs.declared.claim.Phase.TheVariants.{Working, Met, Ended}
-use Rattle.runs.specs.declared.claim.Ticket.{Ticket}
 use Rattle.runs.specs.declared.claim.Refused.{Refused}
 use Rattle.runs.specs.declared.claim.Progressed.{Progressed}
 use Rattle.runs.specs.declared.claim.Progressed.TheVariants.{Open as Opened, Found as Finds, Exhausted as Exhausts}
@@ -34,6 +33,10 @@ told None x = Ok x
 abbrev pub handed : {X C : Type 0} → Option Refusal → C → X → Result X (Refused C)
 handed (Some e) c x = Err (record { refusal = e; claim = c })
 handed None c x = Ok x
+
+abbrev pub handed_back : {X C : Type 0} → Result X Refusal → C → Result X (Refused C)
+handed_back (Ok x) c = Ok x
+handed_back (Err e) c = Err (record { refusal = e; claim = c })
 
 -- a ticket is for a search that goes on, a find for one that found a way, a stub for one that is exhausted
 abbrev pub phase_of : Outcome → Phase
@@ -74,9 +77,9 @@ worked_open P keys n (Some u) nodes marks = worked_on P keys n u nodes marks
 
 -- the claim that work gives back
 abbrev pub given : Outcome → ℕ → Progressed
-given Open number = Opened (record { number = number })
-given (Found w) number = Finds (record { number = number }) w.length
-given Exhausted number = Exhausts (record { number = number })
+given Open number = Opened number
+given (Found w) number = Finds number w.length
+given Exhausted number = Exhausts number
 
 -- how many states the open search has expanded
 abbrev pub spent : {M : Type 0} → Option (UnderWay M) → ℕ
@@ -150,8 +153,8 @@ module _ {S M : Type 0} (v : View S M) where
     opened = Some (started m n);
   }
 
-  abbrev pub begun_ticket : Ticket
-  begun_ticket = record { number = v.searches + 1 }
+  abbrev pub begun_ticket : ℕ
+  begun_ticket = v.searches + 1
 
   -- Work is refused by a claim that is no ticket of the open search, and with fewer places for states or marks than keys,
   -- in this order.

@@ -9,8 +9,6 @@ use Rattle.planner.specs.declared.node.Node.{Node}
 use Rattle.runs.specs.Run.{View}
 use Rattle.runs.specs.Calls.{unless, told, handed, placed, found_way, way_actions, way_length, subgoal, begin_fault, begun_run, begun_ticket, work_fault, worked, worked_run, worked_reply, adopt_fault, adopted_run, abandon_fault, closed_run}
 use Rattle.runs.specs.declared.claim.Phase.{Phase}
-use Rattle.runs.specs.declared.claim.Find.{Find}
-use Rattle.runs.specs.declared.claim.Ticket.{Ticket}
 use Rattle.runs.specs.declared.claim.Progressed.{Progressed}
 use Rattle.runs.specs.declared.claim.Progressed.TheVariants.{Open as Opened, Found as Finds, Exhausted as Exhausts}
 use Rattle.runs.specs.declared.claim.Work.{Work}
@@ -82,7 +80,7 @@ drained (Exhausts t) s m = record { origin = s; measure = m } ∷ []
 
 module _ {S M : Type 0} where
   -- begin handed out a ticket: a search by m is open, in a memory that begin left so
-  abbrev pub note_begin : Log S M → M → Result Ticket Refusal → List (Node S) → List ℕ → Log S M
+  abbrev pub note_begin : Log S M → M → Result ℕ Refusal → List (Node S) → List ℕ → Log S M
   note_begin l m (Err e) nodes marks = l
   note_begin l m (Ok t) nodes marks = record {
     segments = l.segments;
@@ -169,25 +167,25 @@ module _ {S M : Type 0} (keys : M → List ℕ → List ℕ) (total : M → ℕ)
       (unless (begin_fault v (total m) (length nodes) (length marks)) nodes (begun (task (subgoal v) (keys m) (total m)) nodes marks).nodes)
       (unless (begin_fault v (total m) (length nodes) (length marks)) marks (begun (task (subgoal v) (keys m) (total m)) nodes marks).marks)
 
-  abbrev pub work_leaves : Ticket → ℕ → List (Node S) → List ℕ → View S M
-  work_leaves t n nodes marks = unless (work_fault v t.number (length nodes) (length marks)) v (worked_run v (worked v keys n nodes marks))
+  abbrev pub work_leaves : ℕ → ℕ → List (Node S) → List ℕ → View S M
+  work_leaves t n nodes marks = unless (work_fault v t (length nodes) (length marks)) v (worked_run v (worked v keys n nodes marks))
 
-  abbrev pub work_notes : Ticket → ℕ → List (Node S) → List ℕ → Log S M
+  abbrev pub work_notes : ℕ → ℕ → List (Node S) → List ℕ → Log S M
   work_notes t n nodes marks =
       note_work v.problem l
-      (handed (work_fault v t.number (length nodes) (length marks)) t (worked_reply v t.number (worked v keys n nodes marks)))
-      (unless (work_fault v t.number (length nodes) (length marks)) nodes (worked v keys n nodes marks).nodes)
-      (unless (work_fault v t.number (length nodes) (length marks)) marks (worked v keys n nodes marks).marks)
+      (handed (work_fault v t (length nodes) (length marks)) t (worked_reply v t (worked v keys n nodes marks)))
+      (unless (work_fault v t (length nodes) (length marks)) nodes (worked v keys n nodes marks).nodes)
+      (unless (work_fault v t (length nodes) (length marks)) marks (worked v keys n nodes marks).marks)
 
-  abbrev pub adopt_leaves : Find → List (Node S) → List ℕ → View S M
+  abbrev pub adopt_leaves : ℕ → List (Node S) → List ℕ → View S M
   adopt_leaves c nodes plan =
-      unless (adopt_fault v c.number nodes (length plan)) v
+      unless (adopt_fault v c nodes (length plan)) v
       (adopted_run v (way_actions nodes (found_way v.opened)) (way_length (found_way v.opened)))
 
-  abbrev pub adopt_notes : Find → List (Node S) → List ℕ → Log S M
+  abbrev pub adopt_notes : ℕ → List (Node S) → List ℕ → Log S M
   adopt_notes c nodes plan =
-      note_adopt v.problem l (handed (adopt_fault v c.number nodes (length plan)) c (way_length (found_way v.opened))) plan
-      (unless (adopt_fault v c.number nodes (length plan)) plan (placed plan v.length (way_actions nodes (found_way v.opened))))
+      note_adopt v.problem l (handed (adopt_fault v c nodes (length plan)) c (way_length (found_way v.opened))) plan
+      (unless (adopt_fault v c nodes (length plan)) plan (placed plan v.length (way_actions nodes (found_way v.opened))))
 
   abbrev pub abandon_leaves : Phase → ℕ → View S M
   abandon_leaves kind number = unless (abandon_fault v kind number) v (closed_run v)
@@ -201,12 +199,12 @@ pub data Given {S M : Type 0} (keys : M → List ℕ → List ℕ) (total : M �
   made : Given keys total first first nothing
   begin : {v : View S M} {l : Log S M} → Given keys total first v l → (m : M) (nodes : List (Node S)) (marks : List ℕ)
       → Given keys total first (begin_leaves keys total v l m nodes marks) (begin_notes keys total v l m nodes marks)
-  work : {v : View S M} {l : Log S M} → Given keys total first v l → (t : Ticket) (n : ℕ) (nodes : List (Node S)) (marks : List ℕ)
-      → SameStates l (work_fault v t.number (length nodes) (length marks)) nodes
-      → SameMarks l (work_fault v t.number (length nodes) (length marks)) marks
+  work : {v : View S M} {l : Log S M} → Given keys total first v l → (t n : ℕ) (nodes : List (Node S)) (marks : List ℕ)
+      → SameStates l (work_fault v t (length nodes) (length marks)) nodes
+      → SameMarks l (work_fault v t (length nodes) (length marks)) marks
       → Given keys total first (work_leaves keys total v l t n nodes marks) (work_notes keys total v l t n nodes marks)
-  adopt : {v : View S M} {l : Log S M} → Given keys total first v l → (c : Find) (nodes : List (Node S)) (plan : List ℕ)
-      → SameStates l (adopt_fault v c.number nodes (length plan)) nodes
+  adopt : {v : View S M} {l : Log S M} → Given keys total first v l → (c : ℕ) (nodes : List (Node S)) (plan : List ℕ)
+      → SameStates l (adopt_fault v c nodes (length plan)) nodes
       → Given keys total first (adopt_leaves keys total v l c nodes plan) (adopt_notes keys total v l c nodes plan)
   -- with a ticket, a find or a stub
   abandon : {v : View S M} {l : Log S M} → Given keys total first v l → (kind : Phase) (number : ℕ)

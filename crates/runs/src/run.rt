@@ -15,6 +15,7 @@ pub mod work;
 
 // `current` is where the adopted segments lead, `length` how many steps they have, `effort` the expanded states of the
 // ended searches, `searches` the number of the latest search.
+// Places for states and marks are lent to each call as two slices, and not as one value: adopt is lent no marks.
 // No `impl Model`: what contracts see of a run holds the model's meaning, which is functions, and a function has no code.
 #[derive(Drop)]
 pub struct Run<D: StateModel, M> {

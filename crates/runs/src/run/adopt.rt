@@ -4,7 +4,7 @@ ghost use Rattle.planner.specs.Way.{actions_of};
 ghost use Rattle.runs.specs.Run.{view};
 ghost use Rattle.runs.specs.Calls.{unless, told, handed, placed, found_way, way_actions, way_length, segment_fault, adopt_fault, adopted_run};
 
-use crate::claim::{Claim, Find, Phase, Refused};
+use crate::claim::{Claim, Find, Refused, hand_back};
 use crate::run::Run;
 use domain::model::StateModel;
 use domain::refusal::Refusal;
@@ -51,17 +51,13 @@ impl<D: StateModel, M: Measure + Drop> Run<D, M> {
         ensures reply { result ≡ told (adopt_fault (view self.now) number nodes.now (length plan.old)) (way_length (found_way (view self.now).opened)) }
         ensures after { plan.new ≡ unless (adopt_fault (view self.now) number nodes.now (length plan.old)) plan.old (placed plan.old self.now.length (way_actions nodes.now (found_way (view self.now).opened))) }
     {
-        if !self.is_latest(Phase::Met, number) {
-            return Err(Refusal::ForeignClaim);
+        if let Some(search) = &self.open
+            && let Outcome::Found(way) = search.outcome()
+            && number == self.searches
+        {
+            return self.write_segment(&way, search.count(), nodes, plan);
         }
-        match &self.open {
-            Some(search) => match search.outcome() {
-                Outcome::Found(way) => self.write_segment(&way, search.count(), nodes, plan),
-                Outcome::Open => Err(Refusal::ForeignClaim),
-                Outcome::Exhausted => Err(Refusal::ForeignClaim),
-            },
-            None => Err(Refusal::ForeignClaim),
-        }
+        Err(Refusal::ForeignClaim)
     }
 
     // Goes on from the end of a segment, and ends the open search.
@@ -82,21 +78,13 @@ impl<D: StateModel, M: Measure + Drop> Run<D, M> {
         nodes: &[Node<D::State>],
         plan: &mut [usize],
     ) -> Result<usize, Refused<Find>>
-        ensures reply { result ≡ handed (adopt_fault (view self.old) find.number nodes.now (length plan.old)) find (way_length (found_way (view self.old).opened)) }
-        ensures run { view self.new ≡ unless (adopt_fault (view self.old) find.number nodes.now (length plan.old)) (view self.old) (adopted_run (view self.old) (way_actions nodes.now (found_way (view self.old).opened)) (way_length (found_way (view self.old).opened))) }
-        ensures plan { plan.new ≡ unless (adopt_fault (view self.old) find.number nodes.now (length plan.old)) plan.old (placed plan.old self.old.length (way_actions nodes.now (found_way (view self.old).opened))) }
+        ensures reply { result ≡ handed (adopt_fault (view self.old) find nodes.now (length plan.old)) find (way_length (found_way (view self.old).opened)) }
+        ensures run { view self.new ≡ unless (adopt_fault (view self.old) find nodes.now (length plan.old)) (view self.old) (adopted_run (view self.old) (way_actions nodes.now (found_way (view self.old).opened)) (way_length (found_way (view self.old).opened))) }
+        ensures plan { plan.new ≡ unless (adopt_fault (view self.old) find nodes.now (length plan.old)) plan.old (placed plan.old self.old.length (way_actions nodes.now (found_way (view self.old).opened))) }
     {
-        match self.write_found(find.number, nodes, plan) {
-            Ok(length) => {
-                let used = self.length;
-                self.take_up(&plan[used..used + length]);
-                find.spend();
-                Ok(length)
-            }
-            Err(refusal) => Err(Refused {
-                refusal,
-                claim: find,
-            }),
-        }
+        let length = hand_back(self.write_found(find.number(), nodes, plan), find)?;
+        let used = self.length;
+        self.take_up(&plan[used..used + length]);
+        Ok(length)
     }
 }

@@ -42,8 +42,6 @@ impl<D: StateModel, M: Measure + Drop> Run<D, M> {
         let search = Search::begin(measure, &here, nodes, marks)?;
         self.searches += 1;
         self.open = Some(search);
-        Ok(Ticket {
-            number: self.searches,
-        })
+        Ok(Ticket::of(self.searches))
     }
 }
