@@ -4,6 +4,7 @@ pub mod Copied
 pub mod Cycle
 pub mod Plain
 pub mod Seen
+pub mod Sifted
 pub mod Sound
 pub mod States
 pub mod Strikes

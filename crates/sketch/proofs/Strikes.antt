@@ -1,5 +1,5 @@
 -- Strikes in any order: fewer rules left means more can be struck, so all orders end alike. Assumes nothing.
-use Rattle.std.proofs.Common.{◌≡◌, ℕ, zero, suc, ◌+◌, ◌-◌, ◌<◌, ◌≤◌, Bool, true, false, cond, not, ◌&&◌, ◌⊎◌, List, length, get_or, set, sym, refl, ap, ◌∙◌, subst, inl, inr, ⊎_elim, arith}
+use Rattle.std.proofs.Common.{◌≡◌, ℕ, zero, suc, ◌<◌, ◌≤◌, Bool, true, false, cond, not, ◌&&◌, ◌⊎◌, List, length, get_or, set, sym, refl, ap, ◌∙◌, subst, inl, inr, ⊎_elim, arith}
 use Rattle.std.proofs.lemmas.List.{length-set, length-replicate, get_or-set_same, get_or-set_other, get_or_past, set_past, ext_get_or}
 use Rattle.std.proofs.lemmas.List.Sums.{sum_by-set, get_or-le-sum_by, count_by-le-length}
 use Rattle.std.proofs.lemmas.Bool.{and_parts, and_from, and_left, or_cases, or_left, or_right, cases_Bool, cases_lt, cases_eq, both_ways, not-true, not_from_false}
@@ -122,15 +122,20 @@ module _ (ks : List Kind) (rs : List Rule) where
   pub strikes_none : (n : ℕ) (left : List Bool) → length left ≡ length rs → length rs ≤ lowest (strikable ks rs left) (length rs) → strikes ks rs n left ≡ left
   strikes_none n left long h = stays_on left (stays left long h) n
 
-  -- of n strikes t are made, and one more
-  pub strikes_more : (n t : ℕ) (left : List Bool) → t < n
-      → strikes ks rs (n - t) left ≡ strikes ks rs (n - (t + 1)) (set left (lowest (strikable ks rs left) (length rs)) false)
-  unfolding strikes strike
-  strikes_more n t left h = ap (λ (m : ℕ). strikes ks rs m left) (let e : n - t ≡ suc (n - (t + 1)) = omega arith in e)
+  -- a strike leaves one rule fewer
+  pub struck_fewer : (left : List Bool) (i : ℕ) → length left ≡ length rs → i < length rs → lowest (strikable ks rs left) (length rs) ≡ i
+      → flagged (set left i false) < flagged left
+  struck_fewer left i long h low =
+      let passes : strikable ks rs left i ≡ true = subst (λ (k : ℕ). strikable ks rs left k ≡ true) low (lowest_passes (strikable ks rs left) (length rs) (omega (arith, low))) in
+      omega (arith, sum_by-set (λ b. cond b 1 0) left i false false (omega arith), one_flag left i (strikable_parts left i passes).0)
 
-  pub strikes_all : (n t : ℕ) (left : List Bool) → n ≤ t → strikes ks rs (n - t) left ≡ left
-  unfolding strikes
-  strikes_all n t left h = ap (λ (m : ℕ). strikes ks rs m left) (let e : n - t ≡ 0 = omega arith in e)
+  -- and as many strikes as are enough for what was left are one more than those enough for the rest
+  pub struck_on : (n : ℕ) (left end : List Bool) (i : ℕ) → length left ≡ length rs → i < length rs → lowest (strikable ks rs left) (length rs) ≡ i
+      → flagged left ≤ n → strikes ks rs n left ≡ end → (m : ℕ) × (flagged (set left i false) ≤ m) × (strikes ks rs m (set left i false) ≡ end)
+  unfolding strikes strike
+  struck_on zero left end i long h low few same = absurd (omega (arith, struck_fewer left i long h low))
+  struck_on (suc m) left end i long h low few same =
+      (m, omega (arith, struck_fewer left i long h low), ap (λ (k : ℕ). strikes ks rs m (set left k false)) (sym low) ∙ same)
 
   finished_past : (left : List Bool) → length left ≡ length rs → length rs ≤ lowest (strikable ks rs left) (length rs) → Finished ks rs left
   finished_past left long h i = ⊎_elim

@@ -9,6 +9,7 @@ pub mod Laws
 pub mod Letter
 pub mod Rule
 pub mod Sieve
+pub mod Sifted
 pub mod Sketch
 pub mod Subproblem
 pub mod Words

@@ -5,7 +5,6 @@ pub use crate::held::copy::hold_first;
 use std::alloc::AllocError;
 
 mod copy;
-mod list;
 
 // At most N items, which stand at the beginning of the array.
 pub struct Held<T, const N: usize> {
@@ -22,3 +21,24 @@ impl<T: Copy, const N: usize> Clone for Held<T, N> {
 }
 
 impl<T: Copy, const N: usize> Copy for Held<T, N> {}
+
+impl<T: Copy, const N: usize> Held<T, N> {
+    ghost use Rattle.std.specs.Prelude.{take};
+    ghost use Rattle.sketch.specs.Held.{list_of};
+
+    // The first N of the items, with `blank` behind them where there are fewer.
+    pub fn first(items: &[T], blank: T) -> Held<T, N>
+        ensures { list_of result ≡ take N items.now }
+    {
+        let mut copy = [blank; N];
+        let count = items.len().min(N);
+        copy[..count].copy_from_slice(&items[..count]);
+        Held { items: copy, count }
+    }
+
+    pub fn as_slice(&self) -> &[T]
+        ensures { result.now ≡ list_of self.now }
+    {
+        &self.items[..self.count]
+    }
+}

@@ -1,117 +1,102 @@
 // The sieve: strikes one rule after the other, and tells how many it cannot strike.
-// The rules that are left are flags, one for each rule.
-ghost use Rattle.std.specs.Prelude.{◌≡◌, ◌<◌, ◌≤◌, length};
+ghost use Rattle.std.specs.Prelude.{◌≡◌, ◌≤◌, length};
 ghost use Rattle.sketch.specs.Feature.{kinds_of};
-ghost use Rattle.sketch.specs.Below.{lowest};
-ghost use Rattle.sketch.specs.Sieve.{raised, lowered, justifies, strikable, strikes, flagged, rules_left};
+ghost use Rattle.sketch.specs.Sieve.{rules_left};
 
 use crate::feature::Feature;
-use crate::rule::Rule;
+use crate::rule::{Entry, Rule};
 
-// Whether a rule that is left may raise the feature.
-fn is_raised(features: &[Feature], rules: &[Rule], left: &[bool], feature: usize) -> bool
-    requires inside { (feature < length features.now) × (length features.now ≤ 8) }
-    requires flags { length left.now ≡ length rules.now }
-    ensures { result ≡ raised (kinds_of features.now) rules.now left.now feature }
-{
-    let kind = features[feature].kind;
-    for i in 0..rules.len() {
-        if left[i] && rules[i].entries[feature].may_raise(kind) {
-            return true;
-        }
-    }
-    false
+// Features, rules over them, and of each rule whether it is left.
+#[derive(Drop)]
+struct Sieve<'a> {
+    features: &'a [Feature],
+    rules: &'a [Rule],
+    left: [bool; 16],
+    ghost few_features: { length features.now ≤ 8 },
+    ghost few_rules: { length rules.now ≤ 16 },
+    ghost wide: { length left ≡ 16 },
 }
 
-// Whether a rule that is left may lower the feature.
-fn is_lowered(features: &[Feature], rules: &[Rule], left: &[bool], feature: usize) -> bool
-    requires inside { (feature < length features.now) × (length features.now ≤ 8) }
-    requires flags { length left.now ≡ length rules.now }
-    ensures { result ≡ lowered (kinds_of features.now) rules.now left.now feature }
-{
-    let kind = features[feature].kind;
-    for i in 0..rules.len() {
-        if left[i] && rules[i].entries[feature].may_lower(kind) {
-            return true;
+impl<'a> Sieve<'a> {
+    ghost use Rattle.std.specs.Prelude.{Bool, ◌<◌, ◌&&◌, MatchOption};
+    ghost use Rattle.sketch.specs.Below.{some_below, lowest};
+    ghost use Rattle.sketch.specs.Rule.{rule_at, entry_at};
+    ghost use Rattle.sketch.specs.Sieve.{justifies, strikable, strikes, whole, flagged};
+    ghost use Rattle.sketch.specs.Sifted.{kinds_in, left_in, some_left};
+    ghost use Rattle.sketch.specs.declared.rule.Entry.{Entry};
+
+    fn new(features: &'a [Feature], rules: &'a [Rule]) -> Sieve<'a>
+        requires { (length features.now ≤ 8) × (length rules.now ≤ 16) }
+        ensures features { result.features.now ≡ features.now }
+        ensures rules { result.rules.now ≡ rules.now }
+        ensures left { left_in result ≡ whole rules.now }
+    {
+        Sieve {
+            features,
+            rules,
+            left: [true; 16],
         }
     }
-    false
-}
 
-// Whether the feature justifies that the rule is struck.
-fn is_justified(
-    features: &[Feature],
-    rules: &[Rule],
-    left: &[bool],
-    rule: &Rule,
-    feature: usize,
-) -> bool
-    requires inside { (feature < length features.now) × (length features.now ≤ 8) }
-    requires flags { length left.now ≡ length rules.now }
-    ensures { result ≡ justifies (kinds_of features.now) rules.now left.now rule.now feature }
-{
-    let raised = is_raised(features, rules, left, feature);
-    let lowered = is_lowered(features, rules, left, feature);
-    rule.entries[feature].moves_one_way(features[feature].kind, raised, lowered)
-}
-
-// Whether the rule i is left and can be struck.
-fn is_strikable(features: &[Feature], rules: &[Rule], left: &[bool], i: usize) -> bool
-    requires few { length features.now ≤ 8 }
-    requires inside { i < length rules.now }
-    requires flags { length left.now ≡ length rules.now }
-    ensures { result ≡ strikable (kinds_of features.now) rules.now left.now i }
-{
-    if !left[i] {
-        return false;
+    // Whether the entry of the feature passes the test in some rule that is left.
+    fn some_left<F: Fn(Entry) -> bool>(&self, feature: usize, test: F) -> bool
+        requires inside { feature < 8 }
+        requires callable { F.IsAlwaysCallable test }
+        ensures { (p : Entry → Bool) → ((e : Entry) (r : Bool) → F.post test e r → r ≡ p e) → result ≡ some_left p self.now feature }
+    {
+        self.rules
+            .iter()
+            .zip(&self.left)
+            .any(|(rule, left)| *left && test(rule.entries[feature]))
     }
-    for feature in 0..features.len() {
-        if is_justified(features, rules, left, &rules[i], feature) {
-            return true;
+
+    // Whether the feature justifies that the rule is struck.
+    fn is_justified(&self, rule: &Rule, feature: usize) -> bool
+        requires { feature < length self.now.features.now }
+        ensures { result ≡ justifies (kinds_in self.now) self.now.rules.now (left_in self.now) rule.now feature }
+    {
+        let kind = self.features[feature].kind;
+        let raised = self.some_left(feature, |entry| entry.may_raise(kind));
+        let lowered = self.some_left(feature, |entry| entry.may_lower(kind));
+        rule.entries[feature].moves_one_way(kind, raised, lowered)
+    }
+
+    // Whether some feature justifies that the rule is struck.
+    fn is_strikable(&self, rule: &Rule) -> bool
+        ensures { result ≡ some_below (justifies (kinds_in self.now) self.now.rules.now (left_in self.now) rule.now) (length (kinds_in self.now)) }
+    {
+        (0..self.features.len()).any(|feature| self.is_justified(rule, feature))
+    }
+
+    // The lowest rule that is left and can be struck.
+    fn lowest_strikable(&self) -> Option<usize>
+        ensures { let p = strikable (kinds_in self.now) self.now.rules.now (left_in self.now) in let n = length self.now.rules.now in MatchOption result (lowest p n ≡ n) (λ i. (i < n) × (lowest p n ≡ i)) }
+    {
+        self.rules
+            .iter()
+            .zip(&self.left)
+            .position(|(rule, left)| *left && self.is_strikable(rule))
+    }
+
+    // Strikes rules until none can be struck.
+    fn strike_all(&mut self)
+        ensures features { self.new.features.now ≡ self.old.features.now }
+        ensures rules { self.new.rules.now ≡ self.old.rules.now }
+        ensures left { let n = length self.old.rules.now in left_in self.new ≡ strikes (kinds_in self.old) self.old.rules.now n (left_in self.old) }
+    {
+        while let Some(i) = self.lowest_strikable() {
+            self.left[i] = false;
         }
     }
-    false
-}
 
-// The lowest strikable rule; the number of rules where there is none.
-fn lowest_strikable(features: &[Feature], rules: &[Rule], left: &[bool]) -> usize
-    requires few { length features.now ≤ 8 }
-    requires flags { length left.now ≡ length rules.now }
-    ensures { result ≡ lowest (strikable (kinds_of features.now) rules.now left.now) (length rules.now) }
-{
-    for i in 0..rules.len() {
-        if is_strikable(features, rules, left, i) {
-            return i;
-        }
+    fn count_left(&self) -> usize
+        ensures { result ≡ flagged (left_in self.now) }
+    {
+        self.left[..self.rules.len()]
+            .iter()
+            .filter(|left| **left)
+            .count()
     }
-    rules.len()
-}
-
-// Strikes rules until none can be struck.
-fn strike_all(features: &[Feature], rules: &[Rule], left: &mut [bool])
-    requires few { length features.now ≤ 8 }
-    requires flags { length left.old ≡ length rules.now }
-    ensures { left.new ≡ strikes (kinds_of features.now) rules.now (length rules.now) left.old }
-{
-    for _turn in 0..rules.len() {
-        let i = lowest_strikable(features, rules, left);
-        if i == rules.len() {
-            return;
-        }
-        left[i] = false;
-    }
-}
-
-fn count_flags(left: &[bool]) -> usize
-    ensures { result ≡ flagged left.now }
-{
-    let mut count = 0;
-    for flag in left {
-        if *flag {
-            count += 1;
-        }
-    }
-    count
 }
 
 // How many rules the sieve leaves.
@@ -119,8 +104,7 @@ pub fn rules_left(features: &[Feature], rules: &[Rule]) -> usize
     requires { (length features.now ≤ 8) × (length rules.now ≤ 16) }
     ensures { result ≡ rules_left (kinds_of features.now) rules.now }
 {
-    let mut flags = [true; 16];
-    let left = &mut flags[0..rules.len()];
-    strike_all(features, rules, left);
-    count_flags(left)
+    let mut sieve = Sieve::new(features, rules);
+    sieve.strike_all();
+    sieve.count_left()
 }
