@@ -2,11 +2,13 @@
 -- Assumes nothing.
 use Rattle.std.specs.Prelude.{ℕ, zero, suc, ◌+◌, Bool, cond, not, ◌&&◌, List, ◌++◌, drop, replicate, is_some, Some, None, Option, nat_lt, slice_index_or, slice_set}
 use Rattle.domain.specs.Model.{Meaning}
+use Rattle.domain.specs.declared.model.StateModel.{Ghosts as Model}
+use Rattle.novelty.specs.declared.measure.Measure.{Ghosts as Measure}
 use Rattle.novelty.specs.Marks.{novel, marked}
 use Rattle.planner.specs.declared.node.Node.{Node}
 use Rattle.planner.specs.declared.node.Link.{Link}
 use Rattle.planner.specs.declared.node.Progress.{Progress}
-use Rattle.planner.specs.declared.search.Task.{Task as Held}
+use Rattle.planner.specs.declared.task.Task.{Task as Held}
 
 -- What a search is given: the problem that it searches, and a measure by its keys of a set of atoms and its count.
 pub record Task (S : Type 0) : Type 0 where
@@ -18,8 +20,8 @@ abbrev pub task : {S : Type 0} → Meaning S → (List ℕ → List ℕ) → ℕ
 task P keys count = record { problem = P; keys = keys; count = count }
 
 -- the same, as the kernel holds it
-abbrev pub given : {D M S : Type 0} → (D → Meaning S) → (M → List ℕ → List ℕ) → Held D M → Task S
-given meaning keys t = task (meaning t.model.now) (keys t.measure.now) t.count
+abbrev pub given : {D M S : Type 0} {model : Model D S} {measure : Measure M} → Held D M S model measure → Task S
+given {model = model} {measure = measure} t = task (model.meaning t.model.now) (measure.keys t.measure.now) t.count
 
 -- What a search holds between two calls: the nodes and marks, how many states are expanded and kept, and the
 -- link that met a target, once one did. Numbers from `expanded` below `kept` wait; the first of them is the next

@@ -29,6 +29,7 @@ standing m n p outcome =
 
 -- what holds of the progress of every search by n keys
 pub record Bounds (n : ℕ) (p : Progress) : Type 0 where
+  pub some : 1 ≤ n
   pub few : n ≤ 65536
   pub kept : p.kept ≤ n
   pub expanded : p.expanded ≤ n

@@ -4,6 +4,7 @@
 pub mod node;
 pub mod search;
 pub mod stepwise;
+mod task;
 pub mod way;
 pub mod whole;
 pub mod widths;

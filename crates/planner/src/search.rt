@@ -4,19 +4,12 @@ ghost use Rattle.planner.specs.Search.{snap, given, tried, tried_from, expand_ne
 ghost use Rattle.planner.specs.Stepwise.{lacks};
 
 use crate::node::{Link, Node, Progress};
+use crate::task::Task;
 use domain::model::StateModel;
 use novelty::measure::Measure;
 
-// What a search is given: the model that it searches, and a measure with how many keys it has.
-#[derive(Clone, Copy)]
-pub(crate) struct Task<'a, D, M> {
-    pub(crate) model: &'a D,
-    pub(crate) measure: &'a M,
-    pub(crate) count: usize,
-}
-
-// Nodes, marks and progress are lent one by one: a struct of them would be three references, and each contract below
-// would have to say of each that it stays the same one.
+// Nodes, marks and progress are lent one by one: with a struct of them each contract would also say, of either slice,
+// that it stays the same one and keeps its length.
 impl<'a, D: StateModel, M: Measure> Task<'a, D, M> {
     // The search of a model by a measure, and by all of its keys.
     pub(crate) fn new(model: &'a D, measure: &'a M) -> Task<'a, D, M>
@@ -48,7 +41,7 @@ impl<'a, D: StateModel, M: Measure> Task<'a, D, M> {
         action: usize,
     )
         requires { self.now.count ≤ length nodes.old }
-        ensures { snap nodes.new marks.new progress.new ≡ tried (given D.meaning M.keys self.now) state (snap nodes.old marks.old progress.old) action }
+        ensures { snap nodes.new marks.new progress.new ≡ tried (given self.now) state (snap nodes.old marks.old progress.old) action }
     {
         if !self.model.applies(state, action) {
             return;
@@ -82,7 +75,7 @@ impl<'a, D: StateModel, M: Measure> Task<'a, D, M> {
         state: D::State,
     )
         requires { self.now.count ≤ length nodes.old }
-        ensures { snap nodes.new marks.new progress.new ≡ tried_from (given D.meaning M.keys self.now) state (snap nodes.old marks.old progress.old) 0 (given D.meaning M.keys self.now).problem.actions }
+        ensures { snap nodes.new marks.new progress.new ≡ tried_from (given self.now) state (snap nodes.old marks.old progress.old) 0 (given self.now).problem.actions }
     {
         let actions = self.model.actions();
         for action in 0..actions {
@@ -97,7 +90,7 @@ impl<'a, D: StateModel, M: Measure> Task<'a, D, M> {
     fn expand(&self, nodes: &mut [Node<D::State>], marks: &mut [u8], progress: &mut Progress)
         requires places { self.now.count ≤ length nodes.old }
         requires waiting { progress.old.expanded < self.now.count }
-        ensures { snap nodes.new marks.new progress.new ≡ expand_next (given D.meaning M.keys self.now) (snap nodes.old marks.old progress.old) }
+        ensures { snap nodes.new marks.new progress.new ≡ expand_next (given self.now) (snap nodes.old marks.old progress.old) }
     {
         let state = nodes[progress.expanded].state;
         self.try_actions(nodes, marks, progress, state);
@@ -114,7 +107,7 @@ impl<'a, D: StateModel, M: Measure> Task<'a, D, M> {
     )
         requires places { self.now.count ≤ length nodes.old }
         requires held { progress.old.kept ≤ self.now.count }
-        ensures { snap nodes.new marks.new progress.new ≡ advanced (given D.meaning M.keys self.now) budget (snap nodes.old marks.old progress.old) }
+        ensures { snap nodes.new marks.new progress.new ≡ advanced (given self.now) budget (snap nodes.old marks.old progress.old) }
     {
         for _ in 0..budget {
             if !progress.goes_on() {
@@ -126,10 +119,9 @@ impl<'a, D: StateModel, M: Measure> Task<'a, D, M> {
 
     // Keeps the start as number 0, with its keys alone marked.
     pub(crate) fn begin(&self, nodes: &mut [Node<D::State>], marks: &mut [u8]) -> Progress
-        requires some { 0 < self.now.count }
         requires nodes { self.now.count ≤ length nodes.old }
         requires marks { self.now.count ≤ length marks.old }
-        ensures { snap nodes.new marks.new result ≡ begun (given D.meaning M.keys self.now) nodes.old marks.old }
+        ensures { snap nodes.new marks.new result ≡ begun (given self.now) nodes.old marks.old }
     {
         marks[..self.count].fill(0);
         let start = self.model.start();

@@ -5,7 +5,7 @@ ghost use Rattle.planner.specs.Search.{snap, task, given};
 ghost use Rattle.planner.specs.Whole.{Within, reply_by, search_fault, at_end, search_reply, search_nodes, search_marks};
 
 use crate::node::{Node, Outcome, Progress, Reply, Way};
-use crate::search::Task;
+use crate::task::Task;
 use crate::way::trace_back;
 use domain::model::StateModel;
 use domain::refusal::Refusal;
@@ -32,7 +32,8 @@ pub(crate) fn reply<S>(nodes: &[Node<S>], progress: &Progress) -> Reply
     }
 }
 
-// Begins a search and advances it until it ends.
+// Begins a search and advances it until it ends. A search under way owns its measure, and a whole one is lent it: so
+// both stand on the kernel's `begin` and `advance`, and not the one on the other.
 fn search_to_end<D: StateModel, M: Measure>(
     task: &Task<D, M>,
     nodes: &mut [Node<D::State>],
@@ -42,9 +43,9 @@ fn search_to_end<D: StateModel, M: Measure>(
     requires nodes { task.now.count ≤ length nodes.old }
     requires marks { task.now.count ≤ length marks.old }
     requires start { (D.meaning task.now.model.now).target (D.meaning task.now.model.now).start ≡ false }
-    ensures value { snap nodes.new marks.new result ≡ at_end (given D.meaning M.keys task.now) nodes.old marks.old }
+    ensures value { snap nodes.new marks.new result ≡ at_end (given task.now) nodes.old marks.old }
     ensures within { Within (length nodes.new) result.met }
-    ensures findings { WholeFindings (given D.meaning M.keys task.now) nodes.old marks.old nodes.new (reply_by nodes.new result.met result.expanded result.kept) }
+    ensures findings { WholeFindings (given task.now) nodes.old marks.old nodes.new (reply_by nodes.new result.met result.expanded result.kept) }
 {
     let mut progress = task.begin(nodes, marks);
     task.advance(nodes, marks, &mut progress, task.count);

@@ -5,8 +5,8 @@ ghost use Rattle.planner.specs.Search.{task, begun};
 ghost use Rattle.planner.specs.Stepwise.{started, lacks, worked_on, moved_on, advance_reply};
 
 use crate::node::{Node, Outcome, Reply};
-use crate::search::Task;
 use crate::stepwise::Search;
+use crate::task::Task;
 use crate::whole::reply;
 use domain::model::StateModel;
 use domain::refusal::Refusal;

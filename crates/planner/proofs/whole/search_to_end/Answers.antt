@@ -3,25 +3,13 @@ use Rattle.planner.specs.Search.{task, given, snap, advanced}
 use Rattle.planner.specs.Whole.{at_end}
 use Rattle.planner.proofs.Expanding.{Fair}
 use Rattle.planner.proofs.Findings.{end_within, end_findings}
-use Rattle.planner.proofs.Lawful.{fair, count_above_0}
+use Rattle.planner.proofs.Lawful.{fair}
 use Rattle.planner.proofs.whole.search_to_end.Goals as goal
-
-pub begin-progress-requires-clause-some : goal.begin-progress-requires-clause-some
-begin-progress-requires-clause-some g c =
-    let t = c.args.task.now in
-    let m = t.measure.now in
-    let laws = g.met.M.Measure in
-    let some = count_above_0 _ (g.D.StateModel.lawful t.model.now) (g.M.Measure.keys m) (g.M.Measure.total m) (laws.below m) (laws.some m) in
-    omega (arith, some, c.requires.counted)
 
 pub advance-requires-clause-held : goal.advance-requires-clause-held
 advance-requires-clause-held g c =
-    let t = c.args.task.now in
-    let m = t.measure.now in
-    let laws = g.met.M.Measure in
-    let some = count_above_0 _ (g.D.StateModel.lawful t.model.now) (g.M.Measure.keys m) (g.M.Measure.total m) (laws.below m) (laws.some m) in
     let one : c.begin-progress.result.kept ≡ 1 = ap (λ h. h.kept) c.begin-progress.ensures in
-    omega (arith, some, c.requires.counted)
+    omega (arith, c.args.task.now.some)
 
 pub returns : goal.returns
 returns g c =
@@ -31,7 +19,7 @@ returns g c =
     let P = g.D.StateModel.meaning t.model.now in
     let keys = g.M.Measure.keys m in
     let total = g.M.Measure.total m in
-    let Q = given g.D.StateModel.meaning g.M.Measure.keys t in
+    let Q = given t in
     let F = subst (λ n. Fair (task P keys n)) (sym c.requires.counted) (fair P (g.D.StateModel.lawful t.model.now) keys total (laws.below m) (laws.some m)) in
     let nodes = c.args.nodes.now in
     let marks = c.args.marks.now in

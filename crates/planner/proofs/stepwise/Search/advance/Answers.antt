@@ -22,4 +22,4 @@ invariant_of-self g c =
     let Q = task (g.D.StateModel.meaning c.args.model.now) (g.M.Measure.keys s.measure) s.count in
     let first = snap c.args.nodes.now c.args.marks.now s.progress in
     let B = bounded_after Q c.args.budget first _ (record { kept = held.kept; expanded = held.expanded; within = held.within }) c.advance.ensures in
-    record { few = held.few; kept = B.kept; expanded = B.expanded; within = B.within }
+    record { some = held.some; few = held.few; kept = B.kept; expanded = B.expanded; within = B.within }

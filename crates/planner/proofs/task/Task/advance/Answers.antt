@@ -2,7 +2,7 @@ use Rattle.std.proofs.Common.{◌≡◌, ◌<◌, ◌≤◌, true, not, ltb, is_
 use Rattle.std.proofs.lemmas.Bool.{and_parts, ltb-true}
 use Rattle.planner.specs.Search.{snap, goes_on}
 use Rattle.planner.proofs.Steps.{advanced_first, advanced_ended, advanced_more, advanced_all, expand_next_kept}
-use Rattle.planner.proofs.search.Task.advance.Goals as goal
+use Rattle.planner.proofs.task.Task.advance.Goals as goal
 
 pub loop-init : goal.loop-init
 loop-init g c = (advanced_first _ c.args.budget _, c.requires.held)

@@ -2,7 +2,7 @@ use Rattle.std.proofs.Common.{◌<◌, ◌≤◌, sym, ap, ◌∙◌, arith}
 use native.Mathlib.Nat.{sub-zero}
 use Rattle.planner.specs.Search.{tried_from}
 use Rattle.planner.proofs.Steps.{tries_end, tries_go_on, no_more_tries}
-use Rattle.planner.proofs.search.Task.try_actions.Goals as goal
+use Rattle.planner.proofs.task.Task.try_actions.Goals as goal
 
 pub loop-action-init : goal.loop-action-init
 loop-action-init g c = sym (ap (tried_from _ _ _ 0) (sub-zero _))

@@ -1,6 +1,6 @@
 use Rattle.std.proofs.Common.{◌≡◌, ap, ◌∙◌, arith}
 use Rattle.planner.proofs.Steps.{tried_from_expanded}
-use Rattle.planner.proofs.search.Task.expand.Goals as goal
+use Rattle.planner.proofs.task.Task.expand.Goals as goal
 
 pub overflow_add-progress : goal.overflow_add-progress
 overflow_add-progress g c =
