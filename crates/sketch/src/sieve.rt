@@ -18,11 +18,10 @@ struct Sieve<'a> {
 }
 
 impl<'a> Sieve<'a> {
-    ghost use Rattle.std.specs.Prelude.{Bool, ◌<◌, ◌&&◌, MatchOption};
-    ghost use Rattle.sketch.specs.Below.{some_below, lowest};
-    ghost use Rattle.sketch.specs.Rule.{rule_at, entry_at};
-    ghost use Rattle.sketch.specs.Sieve.{justifies, strikable, strikes, whole, flagged};
-    ghost use Rattle.sketch.specs.Sifted.{kinds_in, left_in, some_left};
+    ghost use Rattle.std.specs.Prelude.{Bool, ◌<◌, MatchOption};
+    ghost use Rattle.sketch.specs.Below.{some_below};
+    ghost use Rattle.sketch.specs.Sieve.{strikes, whole, flagged};
+    ghost use Rattle.sketch.specs.Sifted.{kinds_in, left_in, some_left, justified_in, lowest_in};
     ghost use Rattle.sketch.specs.declared.rule.Entry.{Entry};
 
     fn new(features: &'a [Feature], rules: &'a [Rule]) -> Sieve<'a>
@@ -53,7 +52,7 @@ impl<'a> Sieve<'a> {
     // Whether the feature justifies that the rule is struck.
     fn is_justified(&self, rule: &Rule, feature: usize) -> bool
         requires { feature < length self.now.features.now }
-        ensures { result ≡ justifies (kinds_in self.now) self.now.rules.now (left_in self.now) rule.now feature }
+        ensures { result ≡ justified_in self.now rule.now feature }
     {
         let kind = self.features[feature].kind;
         let raised = self.some_left(feature, |entry| entry.may_raise(kind));
@@ -63,14 +62,14 @@ impl<'a> Sieve<'a> {
 
     // Whether some feature justifies that the rule is struck.
     fn is_strikable(&self, rule: &Rule) -> bool
-        ensures { result ≡ some_below (justifies (kinds_in self.now) self.now.rules.now (left_in self.now) rule.now) (length (kinds_in self.now)) }
+        ensures { result ≡ some_below (justified_in self.now rule.now) (length (kinds_in self.now)) }
     {
         (0..self.features.len()).any(|feature| self.is_justified(rule, feature))
     }
 
     // The lowest rule that is left and can be struck.
     fn lowest_strikable(&self) -> Option<usize>
-        ensures { let p = strikable (kinds_in self.now) self.now.rules.now (left_in self.now) in let n = length self.now.rules.now in MatchOption result (lowest p n ≡ n) (λ i. (i < n) × (lowest p n ≡ i)) }
+        ensures { let n = length self.now.rules.now in MatchOption result (lowest_in self.now ≡ n) (λ i. (i < n) × (lowest_in self.now ≡ i)) }
     {
         self.rules
             .iter()
