@@ -26,18 +26,18 @@ kept_twice p q r both (x ∷ xs) = ap (λ b. cond b (x ∷ filter r xs) (filter 
     go false e = e
 
 -- the size of the part of s that passes q
-pub count_part : (s r : AtomSet) (q : ℕ → Bool) → ((a : ℕ) → has r a ≡ (has s a && q a)) → length (members r) ≡ count_by q (members s)
+count_part : (s r : AtomSet) (q : ℕ → Bool) → ((a : ℕ) → has r a ≡ (has s a && q a)) → length (members r) ≡ count_by q (members s)
 unfolding members
 count_part s r q both = ap length (kept_twice (has s) q (has r) both (upto 256)) ∙ length-filter q (filter (has s) (upto 256))
 
-pub count_true : (s t r : AtomSet) → ((a : ℕ) → has r a ≡ (has s a && has t a)) → length (members r) ≡ true_count (members s) (members t)
+count_true : (s t r : AtomSet) → ((a : ℕ) → has r a ≡ (has s a && has t a)) → length (members r) ≡ true_count (members s) (members t)
 count_true s t r both = count_part s r (among (members t)) (λ a. both a ∙ ap (λ b. has s a && b) (sym (among_members t a)))
 
-pub count_false : (s t r : AtomSet) → ((a : ℕ) → has r a ≡ (has s a && not (has t a))) → length (members r) ≡ false_count (members s) (members t)
+count_false : (s t r : AtomSet) → ((a : ℕ) → has r a ≡ (has s a && not (has t a))) → length (members r) ≡ false_count (members s) (members t)
 count_false s t r both = count_part s r (λ a. not (among (members t) a)) (λ a. both a ∙ ap (λ b. has s a && not b) (sym (among_members t a)))
 
 -- a count taken as a Boolean's value
-pub at_most_one : (n : ℕ) → min n 1 ≡ cond (ltb 0 n) 1 0
+at_most_one : (n : ℕ) → min n 1 ≡ cond (ltb 0 n) 1 0
 at_most_one zero = refl
 at_most_one (suc n) = grind arith
 
@@ -53,11 +53,25 @@ counted_le FalseCount atoms truths = count_by-le-length (λ a. not (among truths
 pub value_le_top : (f : Feature) (truths : List ℕ) → value_of f truths ≤ top_of f
 value_le_top f truths = counted_le f.kind (members f.atoms) truths
 
--- a count by the kind of a feature is its value, and so at most the largest
-pub is_value : (f : Feature) (k : Kind) (truths : List ℕ) (n : ℕ) → f.kind ≡ k → n ≡ counted k (members f.atoms) truths
-    → (n ≡ value_of f truths) × (n ≤ top_of f)
-is_value f k truths n same e =
-    let v = e ∙ sym (ap (λ (x : Kind). counted x (members f.atoms) truths) same) in (v, omega (arith, v, value_le_top f truths))
+-- a count by the kind of a feature is its value
+is_value : (f : Feature) (k : Kind) (truths : List ℕ) (n : ℕ) → f.kind ≡ k → n ≡ counted k (members f.atoms) truths → n ≡ value_of f truths
+is_value f k truths n same e = e ∙ sym (ap (λ (x : Kind). counted x (members f.atoms) truths) same)
+
+pub value_boolean : (f : Feature) (t r : AtomSet) (m n : ℕ) → f.kind ≡ Boolean → n ≡ length (members r) → ((a : ℕ) → has r a ≡ (has f.atoms a && has t a))
+    → m ≡ min n 1 → m ≡ value_of f (members t)
+value_boolean f t r m n same e both low =
+    is_value f Boolean (members t) m same (low ∙ ap (λ (k : ℕ). min k 1) (e ∙ count_true f.atoms t r both) ∙ at_most_one _)
+
+pub value_true : (f : Feature) (t r : AtomSet) (n : ℕ) → f.kind ≡ TrueCount → n ≡ length (members r) → ((a : ℕ) → has r a ≡ (has f.atoms a && has t a))
+    → n ≡ value_of f (members t)
+value_true f t r n same e both = is_value f TrueCount (members t) n same (e ∙ count_true f.atoms t r both)
+
+pub value_false : (f : Feature) (t r : AtomSet) (n : ℕ) → f.kind ≡ FalseCount → n ≡ length (members r) → ((a : ℕ) → has r a ≡ (has f.atoms a && not (has t a)))
+    → n ≡ value_of f (members t)
+value_false f t r n same e both = is_value f FalseCount (members t) n same (e ∙ count_false f.atoms t r both)
+
+pub value_below : (f : Feature) (truths : List ℕ) (n : ℕ) → n ≡ value_of f truths → n ≤ top_of f
+value_below f truths n e = omega (arith, e, value_le_top f truths)
 
 pub value_fits : (f : Feature) (truths : List ℕ) → Fitting f.kind (value_of f truths)
 value_fits f truths = go f.kind

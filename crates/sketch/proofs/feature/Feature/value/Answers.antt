@@ -1,22 +1,18 @@
-use Rattle.std.proofs.Common.{ℕ, min, ap, ◌∙◌}
-use Rattle.domain.specs.Atoms.{members}
-use Rattle.sketch.proofs.Values.{count_true, count_false, at_most_one, is_value}
+use Rattle.std.proofs.Common.{rules}
+use Rattle.sketch.proofs.Values.{value_boolean, value_true, value_false, value_below}
 use Rattle.sketch.proofs.feature.Feature.value.Goals as goal
 
-pub returns-in-Boolean : goal.returns-in-Boolean
-returns-in-Boolean c =
-    let n = c.count.ensures.value ∙ count_true c.args.self.now.atoms c.args.truths.now _ c.intersection.ensures.membership in
-    let v = is_value c.args.self.now _ (members c.args.truths.now) _ c.in-Boolean.is (c.min.ensures ∙ ap (λ (k : ℕ). min k 1) n ∙ at_most_one _) in
-    record { counts = v.0; below = v.1 }
+pub returns-in-Boolean-clause-counts : goal.returns-in-Boolean-clause-counts
+returns-in-Boolean-clause-counts c = search (rules, value_boolean)
 
-pub returns-in-TrueCount : goal.returns-in-TrueCount
-returns-in-TrueCount c =
-    let n = count_true c.args.self.now.atoms c.args.truths.now _ c.intersection-in-TrueCount.ensures.membership in
-    let v = is_value c.args.self.now _ (members c.args.truths.now) _ c.in-TrueCount.is (c.count-in-TrueCount.ensures.value ∙ n) in
-    record { counts = v.0; below = v.1 }
+pub returns-in-TrueCount-clause-counts : goal.returns-in-TrueCount-clause-counts
+returns-in-TrueCount-clause-counts c = search (rules, value_true)
 
-pub returns-in-FalseCount : goal.returns-in-FalseCount
-returns-in-FalseCount c =
-    let n = count_false c.args.self.now.atoms c.args.truths.now _ c.difference.ensures.membership in
-    let v = is_value c.args.self.now _ (members c.args.truths.now) _ c.in-FalseCount.is (c.count-in-FalseCount.ensures.value ∙ n) in
-    record { counts = v.0; below = v.1 }
+pub returns-in-TrueCount-clause-below : goal.returns-in-TrueCount-clause-below
+returns-in-TrueCount-clause-below c = value_below _ _ _ (returns-in-TrueCount-clause-counts c)
+
+pub returns-in-FalseCount-clause-counts : goal.returns-in-FalseCount-clause-counts
+returns-in-FalseCount-clause-counts c = search (rules, value_false)
+
+pub returns-in-FalseCount-clause-below : goal.returns-in-FalseCount-clause-below
+returns-in-FalseCount-clause-below c = value_below _ _ _ (returns-in-FalseCount-clause-counts c)
