@@ -1,5 +1,5 @@
 -- A good text is the one that is written from its rows. Assumes nothing.
-use Rattle.std.proofs.Common.{◌≡◌, ℕ, ◌+◌, ◌<◌, ◌≤◌, Bool, true, false, cond, eqb, ◌⊎◌, List, [], ◌∷◌, ◌++◌, map, length, Ok, Err, Result, sym, refl, ap, ◌∙◌, subst, inl, inr, ⊎_elim, arith}
+use Rattle.std.proofs.Common.{◌≡◌, ℕ, ◌+◌, ◌<◌, Bool, true, false, cond, eqb, ◌⊎◌, List, [], ◌∷◌, ◌++◌, map, length, Ok, Err, Result, sym, refl, ap, ◌∙◌, subst, inl, inr, ⊎_elim, arith}
 use Rattle.std.specs.List.{flat_map}
 use Rattle.std.specs.Str.{bytes_eq}
 use Rattle.std.proofs.lemmas.Slice.Eq.{bytes_eq-Decides}
@@ -7,7 +7,8 @@ use Rattle.std.proofs.lemmas.Bool.{eqb-true}
 use Rattle.problem.specs.Form.{and_then, good_by}
 use Rattle.problem.specs.Lines.{fronted, cut, lines}
 use Rattle.problem.specs.Problem.{Parsed, parsed, of_problem, accepted, most_actions, blank_actions, text_problem}
-use Rattle.problem.specs.Reader.{Step, names_of, after_table, start_of, closed, valued, step, step_by, Sound}
+use Rattle.problem.specs.Reader.{Step, names_of, after_table, start_of, closed, valued, step, step_by}
+use Rattle.problem.specs.State.{Sound}
 use Rattle.problem.specs.Text.{Reading, placed, ended, read_lines, read_text}
 use Rattle.problem.specs.Written.{Sheet, numbers_text, lettered_text, twice_text, body, sheet_lines, WhollyAccounted}
 use Rattle.problem.specs.declared.fault.LineFault.{LineFault}
@@ -17,7 +18,7 @@ use Rattle.problem.specs.declared.reader.Reader.{Reader}
 use Rattle.problem.specs.declared.reader.Wanted.{Wanted}
 use Rattle.problem.specs.declared.reader.Wanted.TheVariants.{TheNames, Values, Nothing}
 use Rattle.problem.proofs.Inverse.{cond_ok, cond_on}
-use Rattle.problem.proofs.Sounds.{atom_step, action_step, feature_step, rule_step, from_ok, sound_step}
+use Rattle.problem.proofs.Sounds.{atom_step, action_step, feature_step, rule_step, from_ok, sound_start, sound_step}
 use Rattle.problem.proofs.Spelled.{numbers_spelled, lettered_spelled, twice_spelled}
 
 -- rows of a table and its empty line, and then what is to follow
@@ -200,9 +201,6 @@ good_reading places bs p h = by_reading (read_text (most_actions places) (blank_
     by_reading : (m : Result Reading LineFault) → and_then (of_problem m) (λ r. accepted (parsed r)) ≡ Ok p → (r : Reading) × (m ≡ Ok r) × (accepted (parsed r) ≡ Ok p)
     by_reading (Ok r) g = (r, refl, g)
     by_reading (Err e) g = absurd (let z : ◌≡◌ {A = ℕ} 0 1 = cc in omega arith)
-
-pub sound_start : (limit : ℕ) → limit ≤ 1024 → Sound (start_of limit)
-sound_start limit few = record { few_atoms = omega arith; few_actions = omega arith; few_features = omega arith; few_rules = omega arith; small_limit = few }
 
 pub wholly_accounted : WhollyAccounted
 unfolding read_text

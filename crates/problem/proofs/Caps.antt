@@ -1,12 +1,13 @@
 -- A number past the machine's largest is past every limit, so that a line means the same with the largest in its place.
 -- Assumes nothing.
-use Rattle.std.proofs.Common.{◌≡◌, ℕ, ◌≤◌, false, cond, ◌&&◌, eqb, ltb, Some, None, Ok, Err, Option, Result, sym, refl, ap, ◌∙◌, ⊎_elim, arith}
+use Rattle.std.proofs.Common.{◌≡◌, ℕ, ◌≤◌, false, cond, ◌&&◌, eqb, ltb, List, Some, None, Ok, Err, Option, Result, sym, refl, ap, ◌∙◌, ⊎_elim, arith}
 use Rattle.std.proofs.lemmas.Bool.{cases_lt, le-ltb, ne_eqb}
 use Rattle.sketch.specs.Kind.{kind_named}
 use Rattle.sketch.specs.declared.feature.Kind.{Kind}
 use Rattle.sketch.specs.declared.rule.Entry.{Entry}
-use Rattle.problem.specs.Form.{and_then, good_by, capped_numbers, capped_lettered, capped_twice}
-use Rattle.problem.specs.Numeral.{capped}
+use Rattle.problem.specs.Form.{and_then, good_by, number_at, held_three, held_four, numbers, lettered, twice_lettered, capped_at, capped_numbers, capped_lettered, capped_twice}
+use Rattle.problem.specs.Lines.{fields, three, four}
+use Rattle.problem.specs.Numeral.{letter, capped}
 use Rattle.problem.specs.Role.{role_named}
 use Rattle.problem.specs.Rows.{truth, meant, checked_atom, checked_action, second_kind, checked_feature, checked_entry, checked_rule}
 use Rattle.problem.specs.Tables.{both_named}
@@ -91,6 +92,41 @@ ruled_capped features n few u v (Ok entry) =
 pub rule_capped : (features : ℕ) (table : RuleTable) (n : ℕ) → features ≤ 8 → (t : ℕ × ℕ × ℕ × ℕ) → checked_rule features table n (capped_twice t) ≡ checked_rule features table n t
 rule_capped features table n few t =
     λ i. cond (both_capped table t.0 t.1 i) (Err (NamedTwice n)) (ruled_capped features n few t.0 t.1 (checked_entry n t.2 t.3) i)
+
+-- the values of a line as a machine holds them
+then_by : {X X' Y Y' E : Type 0} (p : X → X') (q : Y → Y') (r : Result X E) (f : X → Result Y E) (g : X' → Result Y' E) → ((x : X) → g (p x) ≡ good_by q (f x))
+    → and_then (good_by p r) g ≡ good_by q (and_then r f)
+then_by p q (Ok x) f g h = h x
+then_by p q (Err e) f g h = refl
+
+then_same : {X Y Y' E : Type 0} (q : Y → Y') (r : Result X E) (f : X → Result Y E) (g : X → Result Y' E) → ((x : X) → g x ≡ good_by q (f x)) → and_then r g ≡ good_by q (and_then r f)
+then_same q (Ok x) f g h = h x
+then_same q (Err e) f g h = refl
+
+pub numbers_capped : (n : ℕ) (bs : List ℕ) → held_three capped_at capped_at capped_at n bs ≡ good_by capped_numbers (numbers n bs)
+unfolding numbers
+numbers_capped n bs =
+    then_same capped_numbers (three n (fields bs)) _ _ λ t.
+    then_by capped capped_numbers (number_at n 1 t.0) _ _ λ u.
+    then_by capped capped_numbers (number_at n 2 t.1) _ _ λ v.
+    then_by capped capped_numbers (number_at n 3 t.2) _ _ λ w. refl
+
+pub lettered_capped : (n : ℕ) (bs : List ℕ) → held_three capped_at letter capped_at n bs ≡ good_by capped_lettered (lettered n bs)
+unfolding lettered
+lettered_capped n bs =
+    then_same capped_lettered (three n (fields bs)) _ _ λ t.
+    then_by capped capped_lettered (number_at n 1 t.0) _ _ λ u.
+    then_same capped_lettered (letter n 2 t.1) _ _ λ c.
+    then_by capped capped_lettered (number_at n 3 t.2) _ _ λ v. refl
+
+pub twice_capped : (n : ℕ) (bs : List ℕ) → held_four capped_at capped_at letter letter n bs ≡ good_by capped_twice (twice_lettered n bs)
+unfolding twice_lettered
+twice_capped n bs =
+    then_same capped_twice (four n (fields bs)) _ _ λ t.
+    then_by capped capped_twice (number_at n 1 t.0) _ _ λ u.
+    then_by capped capped_twice (number_at n 2 t.1) _ _ λ v.
+    then_same capped_twice (letter n 3 t.2) _ _ λ c.
+    then_same capped_twice (letter n 4 t.3) _ _ λ d. refl
 
 -- a line is checked after its form
 pub composed : {X Y E : Type 0} (cap : X → X) (f : X → Result Y E) → ((x : X) → f (cap x) ≡ f x) → (r : Result X E) (x : X) → Ok x ≡ good_by cap r → f x ≡ and_then r f

@@ -6,7 +6,8 @@ use Rattle.problem.specs.Form.{and_then, good_by}
 use Rattle.problem.specs.Order.{Free, behind, behind_all, Reordered, OrderFree}
 use Rattle.problem.specs.Order.Reordered.{same, exchanged}
 use Rattle.problem.specs.Problem.{parsed, of_problem, accepted, most_actions, blank_actions, text_problem}
-use Rattle.problem.specs.Reader.{Step, names_of, start_of, with_actions, with_features, with_rules, valued, step, step_by, Sound}
+use Rattle.problem.specs.Reader.{Step, names_of, start_of, with_actions, with_features, with_rules, valued, step, step_by}
+use Rattle.problem.specs.State.{Sound}
 use Rattle.problem.specs.Tables.{raised_to, other_kind, both_named, feature_added, rule_added}
 use Rattle.problem.specs.Text.{Reading, placed, read_lines, read_text}
 use Rattle.problem.specs.declared.fault.LineFault.{LineFault}
@@ -16,12 +17,12 @@ use Rattle.problem.specs.declared.reader.Reader.{Reader}
 use Rattle.problem.specs.declared.reader.Wanted.{Wanted}
 use Rattle.problem.specs.declared.reader.Wanted.TheVariants.{TheNames, Values, Nothing}
 use Rattle.problem.specs.declared.tables.ActionRow.{ActionRow}
-use Rattle.problem.proofs.Accounted.{valued_wanted, closed_wanted, good_reading, sound_start}
+use Rattle.problem.proofs.Accounted.{valued_wanted, closed_wanted, good_reading}
 use Rattle.problem.proofs.Inverse.{cond_ok}
 use Rattle.problem.proofs.Moving.{filling}
 use Rattle.problem.proofs.Rebuilt.{action_there, feature_there, rule_there}
 use Rattle.problem.proofs.Shapes.{Shaped, shaped_start, shaped_step, features_free, rules_free}
-use Rattle.problem.proofs.Sounds.{action_step, feature_step, rule_step, from_ok, sound_step}
+use Rattle.problem.proofs.Sounds.{action_step, feature_step, rule_step, from_ok, sound_start, sound_step}
 use Rattle.problem.proofs.Updates.{action_added_both, feature_added_both, rule_added_both}
 
 -- two good lines the other way round: the same rows, and the same state in the end

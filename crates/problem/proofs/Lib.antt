@@ -1,8 +1,10 @@
 pub mod Caps
+pub mod Digits
 pub mod Firsts
 pub mod Forms
 pub mod Goods
 pub mod Inverse
+pub mod Kept
 pub mod Moving
 pub mod Named
 pub mod Onward

@@ -1,5 +1,5 @@
 -- The rules of a good text name only its features, so that only the sieve can refuse them. Assumes nothing.
-use Rattle.std.proofs.Common.{◌≡◌, ℕ, ◌+◌, ◌<◌, ◌≤◌, Bool, true, false, cond, not, eqb, ltb, List, [], ◌∷◌, length, set, replicate, Some, None, Ok, Err, Option, Result, sym, refl, ap, ◌∙◌, subst, ⊎_elim, arith, length-take}
+use Rattle.std.proofs.Common.{◌≡◌, ℕ, ◌<◌, ◌≤◌, Bool, true, false, cond, not, eqb, ltb, List, [], ◌∷◌, length, set, replicate, Some, None, Ok, Err, Option, Result, sym, refl, ap, ◌∙◌, subst, ⊎_elim, arith, length-take}
 use Rattle.std.specs.Str.{bytes_eq}
 use Rattle.std.proofs.lemmas.List.{get_or-replicate, get_or_past, get_or-set_same, get_or-set_other, get_or-take, set_past}
 use Rattle.std.proofs.lemmas.Bool.{cases_eq, cases_lt, lt-ltb, le-ltb, ltb-true, or_left, or_right, not_from_true}
@@ -11,12 +11,13 @@ use Rattle.sketch.specs.Rule.{blank, silent, unnamed, idle, entry_at, rule_at}
 use Rattle.sketch.specs.Sieve.{rules_left}
 use Rattle.sketch.specs.declared.rule.Rule.{Rule}
 use Rattle.sketch.proofs.Bounded.{every_from, lowest_is}
-use Rattle.problem.specs.Form.{and_then, good_by}
+use Rattle.problem.specs.Form.{and_then}
 use Rattle.problem.specs.Laws.{SieveAlone}
 use Rattle.problem.specs.Lines.{lines}
 use Rattle.problem.specs.Problem.{Parsed, parsed, features_read, rules_read, of_problem, sieved, accepted, most_actions, blank_actions, text_problem}
-use Rattle.problem.specs.Reader.{Step, names_of, closed, valued, step, step_by, start_of, Sound}
-use Rattle.problem.specs.Text.{Reading, placed, ended, read_lines, read_text}
+use Rattle.problem.specs.Reader.{Step, names_of, closed, valued, step, step_by, start_of}
+use Rattle.problem.specs.State.{Sound}
+use Rattle.problem.specs.Text.{Reading, read_lines, read_text}
 use Rattle.problem.specs.declared.fault.LineFault.{LineFault}
 use Rattle.problem.specs.declared.fault.ProblemFault.TheVariants.{Sketch}
 use Rattle.problem.specs.declared.fault.Table.{Table}
@@ -25,10 +26,10 @@ use Rattle.problem.specs.declared.reader.Reader.{Reader}
 use Rattle.problem.specs.declared.reader.Wanted.{Wanted}
 use Rattle.problem.specs.declared.reader.Wanted.TheVariants.{TheNames, Values, Nothing}
 use Rattle.problem.specs.declared.tables.RuleRow.{RuleRow}
-use Rattle.problem.proofs.Accounted.{sound_start}
 use Rattle.problem.proofs.Inverse.{cond_ok, cond_on}
+use Rattle.problem.proofs.Kept.{lines_kept}
 use Rattle.problem.proofs.Shapes.{Shaped, shaped_start, shaped_step}
-use Rattle.problem.proofs.Sounds.{atom_step, action_step, feature_step, rule_step, from_ok, sound_step}
+use Rattle.problem.proofs.Sounds.{atom_step, action_step, feature_step, rule_step, from_ok, sound_start, sound_step}
 
 -- no rule says anything of a number past the features
 abbrev Quiet : Reader → Type 0
@@ -90,23 +91,6 @@ quiet_by Nothing s n l m h g = absurd (let z : ◌≡◌ {A = ℕ} 0 1 = cc in o
 quiet_step : (s : Reader) (n : ℕ) (l : List ℕ) (m : Step) → Quiet s → step s n l ≡ Ok m → Quiet m.0
 unfolding step
 quiet_step s n l m h g = quiet_by s.wanted s n l m h g
-
--- what every good line keeps holds in the end
-ended_kept : (P : Reader → Type 0) (w : Wanted) (n : ℕ) (r k : Reading) → P r.0 → ended w n r ≡ Ok k → P k.0
-ended_kept P (TheNames table) n r k h g = absurd (let z : ◌≡◌ {A = ℕ} 0 1 = cc in omega arith)
-ended_kept P (Values table) n r k h g = absurd (let z : ◌≡◌ {A = ℕ} 0 1 = cc in omega arith)
-ended_kept P Nothing n r k h g = let same : r ≡ k = cc in subst (λ t. P t.0) same h
-
-pub lines_kept : (P : Reader → Type 0) → ((s : Reader) (n : ℕ) (l : List ℕ) (m : Step) → P s → step s n l ≡ Ok m → P m.0)
-    → (n : ℕ) (r : Reading) (ls : List (List ℕ)) (k : Reading) → P r.0 → read_lines n r ls ≡ Ok k → P k.0
-unfolding read_lines
-lines_kept P keeps n r [] k h g = ended_kept P r.0.wanted n r k h g
-lines_kept P keeps n r (l ∷ ls) k h g = by_step (step r.0 n l) (λ t e. keeps r.0 n l t h e) g (λ next. lines_kept P keeps (n + 1) next ls k)
-  where
-    by_step : (m : Result Step LineFault) → ((t : Step) → m ≡ Ok t → P t.0) → and_then (good_by (λ t. (t.0, placed r.1 t.1)) m) (λ next. read_lines (n + 1) next ls) ≡ Ok k
-        → ((next : Reading) → P next.0 → read_lines (n + 1) next ls ≡ Ok k → P k.0) → P k.0
-    by_step (Ok t) kept q ih = ih (t.0, placed r.1 t.1) (kept t refl) q
-    by_step (Err d) kept q ih = absurd (let z : ◌≡◌ {A = ℕ} 0 1 = cc in omega arith)
 
 -- such rules fit the features
 all_fit : (s : Reader) → Sound s → Shaped s → Quiet s → first_unfit (length (features_read s)) (rules_read s) ≡ length (rules_read s)

@@ -1,8 +1,9 @@
 -- Reading keeps every count to its limit. Assumes nothing.
-use Rattle.std.proofs.Common.{◌≡◌, ℕ, eqb, List, [], ◌∷◌, Ok, Result, ap, subst, arith}
+use Rattle.std.proofs.Common.{◌≡◌, ℕ, ◌≤◌, eqb, List, [], ◌∷◌, Ok, Result, ap, subst, arith}
 use Rattle.std.specs.Str.{bytes_eq}
 use Rattle.problem.specs.Form.{numbers, lettered, twice_lettered}
-use Rattle.problem.specs.Reader.{Step, names_of, after_table, wanting, closed, valued, inside, step, step_by, Sound, after_atom, after_action, after_feature, after_rule}
+use Rattle.problem.specs.Reader.{Step, names_of, start_of, after_table, wanting, closed, valued, inside, step, step_by, after_atom, after_action, after_feature, after_rule}
+use Rattle.problem.specs.State.{Sound}
 use Rattle.problem.specs.Rows.{checked_atom, checked_action, checked_feature, checked_rule, atom_row, action_row, feature_row, rule_row}
 use Rattle.problem.specs.declared.fault.LineFault.{LineFault}
 use Rattle.problem.specs.declared.fault.Table.{Table}
@@ -76,6 +77,9 @@ rule_step s n bs m h =
 -- what a good step comes to
 pub from_ok : (k m : Step) → ◌≡◌ {A = Result Step LineFault} (Ok k) (Ok m) → k.0 ≡ m.0
 from_ok k m h = let same : k ≡ m = cc in ap (λ t. t.0) same
+
+pub sound_start : (limit : ℕ) → limit ≤ 1024 → Sound (start_of limit)
+sound_start limit few = record { few_atoms = omega arith; few_actions = omega arith; few_features = omega arith; few_rules = omega arith; small_limit = few }
 
 sound_wanting : (s : Reader) (w : Wanted) → Sound s → Sound (wanting s w)
 sound_wanting s w h = record { few_atoms = h.few_atoms; few_actions = h.few_actions; few_features = h.few_features; few_rules = h.few_rules; small_limit = h.small_limit }

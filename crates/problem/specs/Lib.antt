@@ -1,3 +1,4 @@
+pub mod Ahead
 pub mod Examples
 pub mod Fault
 pub mod Form
@@ -9,6 +10,7 @@ pub mod Problem
 pub mod Reader
 pub mod Role
 pub mod Rows
+pub mod State
 pub mod Tables
 pub mod Text
 pub mod Written

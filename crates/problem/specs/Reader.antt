@@ -1,5 +1,5 @@
 -- What one line of a text does to what was read so far. Assumes nothing.
-use Rattle.std.specs.Prelude.{◌≡◌, ℕ, ◌≤◌, cond, List, [], ◌∷◌, Some, None, Ok, Err, codes, Option, Result, ◌==◌}
+use Rattle.std.specs.Prelude.{◌≡◌, ℕ, cond, List, [], ◌∷◌, Some, None, Ok, Err, codes, Option, Result, ◌==◌}
 use Rattle.std.specs.Str.{bytes_eq}
 use Rattle.problem.specs.Form.{and_then}
 use Rattle.problem.specs.Rows.{atom_row, action_row, feature_row, rule_row}
@@ -109,11 +109,3 @@ step s n bs = step_by s.wanted s n bs
 abbrev pub Moves : Result Step LineFault → Reader → Result (Option ActionRow) LineFault → Type 0
 Moves m last (Ok row) = m ≡ Ok (last, row)
 Moves m last (Err e) = m ≡ Err e
-
--- every count keeps to its limit
-pub record Sound (s : Reader) : Type 0 where
-  pub few_atoms : s.atoms.count ≤ 256
-  pub few_actions : s.actions ≤ s.limit
-  pub few_features : s.features.count ≤ 8
-  pub few_rules : s.rules.count ≤ 16
-  pub small_limit : s.limit ≤ 1024

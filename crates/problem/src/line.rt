@@ -1,8 +1,7 @@
 // A line of a text, and its columns.
-ghost use Rattle.std.specs.Prelude.{◌≡◌, [], ◌∷◌, Ok, Err, MatchOption, MatchResult};
-ghost use Rattle.problem.specs.Lines.{before, fields, three, four};
-
-use crate::fault::LineFault;
+ghost use Rattle.std.specs.Prelude.{◌==◌, position, ◌≡◌, ◌<◌, ◌≤◌, ℕ, List, [], ◌∷◌, Ok, Err, length, MatchOption};
+ghost use Rattle.problem.specs.Lines.{before, cut, fields, three, four};
+ghost use Rattle.problem.specs.declared.fault.LineFault.TheVariants.{Columns};
 
 // The bytes of a line, and its number, counted from 1.
 #[derive(Clone, Copy)]
@@ -11,63 +10,69 @@ pub struct Line<'a> {
     pub bytes: &'a [u8],
 }
 
-// How many bytes stand in front of the first `stop`; all of them where there is none.
-pub(crate) fn length_before(bytes: &[u8], stop: u8) -> usize
-    ensures { result ≡ before stop bytes.now }
+// The bytes of a column, its line, and its number, counted from 1.
+#[derive(Clone, Copy)]
+pub struct Column<'a> {
+    pub line: usize,
+    pub number: usize,
+    pub bytes: &'a [u8],
+}
+
+// Where the first `stop` stands.
+fn position(bytes: &[u8], stop: u8) -> Option<usize>
+    ensures { result ≡ position (λ b. b == stop) bytes.now }
 {
-    for (i, b) in bytes.iter().enumerate() {
-        if *b == stop {
-            return i;
-        }
-    }
-    bytes.len()
+    bytes.iter().position(|b| *b == stop)
+}
+
+// The bytes in front of the first `stop` and those behind it, if there is one.
+pub(crate) fn split_once<'a>(bytes: &'a [u8], stop: u8) -> Option<(&'a [u8], &'a [u8])>
+    ensures parts { MatchOption result (length bytes.now ≤ before stop bytes.now) (λ p. (none : List (List ℕ)) → cut stop none bytes.now ≡ p.0.now ∷ cut stop none p.1.now) }
+    ensures shorter { MatchOption result (Unit {0}) (λ p. length p.1.now < length bytes.now) }
+{
+    let end = position(bytes, stop)?;
+    Some((&bytes[..end], &bytes[end + 1..]))
 }
 
 // The first field, and the bytes behind its space if it has one.
 fn split_field<'a>(bytes: &'a [u8]) -> Option<(&'a [u8], &'a [u8])>
     ensures { MatchOption result (fields bytes.now ≡ bytes.now ∷ []) (λ p. fields bytes.now ≡ p.0.now ∷ fields p.1.now) }
 {
-    let end = length_before(bytes, b' ');
-    if end < bytes.len() {
-        Some((&bytes[0..end], &bytes[end + 1..]))
-    } else {
-        None
+    split_once(bytes, b' ')
+}
+
+// One function for any number of fields, as an array, is refused where its items hold a lifetime: tried with the columns,
+// and with their bytes alone, by items and by index.
+// The fields, if they are three.
+pub(crate) fn three_fields<'a>(bytes: &'a [u8]) -> Option<(&'a [u8], &'a [u8], &'a [u8])>
+    ensures { MatchOption result ((n : ℕ) → three n (fields bytes.now) ≡ Err (Columns n)) (λ t. (n : ℕ) → three n (fields bytes.now) ≡ Ok (t.0.now, t.1.now, t.2.now)) }
+{
+    let (first, rest) = split_field(bytes)?;
+    let (second, third) = split_field(rest)?;
+    match split_field(third) {
+        None => Some((first, second, third)),
+        Some(_) => None,
     }
 }
 
-impl<'a> Line<'a> {
-    // The columns of a line that has three.
-    pub(crate) fn three_columns(&self) -> Result<(&'a [u8], &'a [u8], &'a [u8]), LineFault>
-        ensures { MatchResult result (λ t. three self.now.number (fields self.now.bytes.now) ≡ Ok (t.0.now, t.1.now, t.2.now)) (λ e. three self.now.number (fields self.now.bytes.now) ≡ Err e) }
-    {
-        let fault = LineFault::Columns { line: self.number };
-        let Some((first, rest)) = split_field(self.bytes) else {
-            return Err(fault);
-        };
-        let Some((second, third)) = split_field(rest) else {
-            return Err(fault);
-        };
-        match split_field(third) {
-            None => Ok((first, second, third)),
-            Some(_) => Err(fault),
-        }
-    }
+// The fields, if they are four.
+pub(crate) fn four_fields<'a>(bytes: &'a [u8]) -> Option<(&'a [u8], &'a [u8], &'a [u8], &'a [u8])>
+    ensures { MatchOption result ((n : ℕ) → four n (fields bytes.now) ≡ Err (Columns n)) (λ t. (n : ℕ) → four n (fields bytes.now) ≡ Ok (t.0.now, t.1.now, t.2.now, t.3.now)) }
+{
+    let (first, rest) = split_field(bytes)?;
+    let (second, third, fourth) = three_fields(rest)?;
+    Some((first, second, third, fourth))
+}
 
-    // The columns of a line that has four.
-    pub(crate) fn four_columns(&self) -> Result<(&'a [u8], &'a [u8], &'a [u8], &'a [u8]), LineFault>
-        ensures { MatchResult result (λ t. four self.now.number (fields self.now.bytes.now) ≡ Ok (t.0.now, t.1.now, t.2.now, t.3.now)) (λ e. four self.now.number (fields self.now.bytes.now) ≡ Err e) }
+impl<'a> Line<'a> {
+    // The column of a number, with these bytes.
+    pub(crate) fn column(&self, number: usize, bytes: &'a [u8]) -> Column<'a>
+        ensures { (result.line ≡ self.now.number) × (result.number ≡ number) × (result.bytes.now ≡ bytes.now) }
     {
-        let number = self.number;
-        let Some((first, rest)) = split_field(self.bytes) else {
-            return Err(LineFault::Columns { line: number });
-        };
-        let behind = Line {
+        Column {
+            line: self.number,
             number,
-            bytes: rest,
-        };
-        match behind.three_columns() {
-            Ok((second, third, fourth)) => Ok((first, second, third, fourth)),
-            Err(fault) => Err(fault),
+            bytes,
         }
     }
 }

@@ -1,63 +1,66 @@
 // What a column of a line holds: a number or one letter.
-ghost use Rattle.std.specs.Prelude.{◌≡◌};
-ghost use Rattle.problem.specs.Numeral.{flaw_of, zero_first, digits_value, capped, numeral, letter};
+ghost use Rattle.std.specs.Prelude.{◌≡◌, Some, None, MatchResult};
+ghost use Rattle.problem.specs.Numeral.{digit, flaw_of, digits_value, capped, numeral, letter};
+ghost use Rattle.std.specs.List.{list_all};
 ghost use Rattle.problem.specs.Form.{good_by};
 
 use crate::fault::{LineFault, NumberFault, NumberFlaw};
+use crate::line::Column;
 
-// What is wrong with digits as a numeral.
-fn zero_flaw(digits: &[u8]) -> Option<NumberFlaw>
-    ensures { result ≡ zero_first digits.now }
+// Whether each byte is a digit.
+fn is_digits(bytes: &[u8]) -> bool
+    ensures { result ≡ list_all digit bytes.now }
 {
-    match digits {
-        [] => Some(NumberFlaw::Empty),
-        [b'0', _, ..] => Some(NumberFlaw::LeadingZero),
-        _ => None,
-    }
+    bytes.iter().all(|b| b.is_ascii_digit())
 }
 
 // Why the bytes are no numeral.
-fn number_flaw(bytes: &[u8]) -> Option<NumberFlaw>
-    ensures { result ≡ flaw_of bytes.now }
+fn check_numeral(bytes: &[u8]) -> Result<(), NumberFlaw>
+    ensures { MatchResult result (λ _. flaw_of bytes.now ≡ None) (λ flaw. flaw_of bytes.now ≡ Some flaw) }
 {
-    for b in bytes {
-        if !b.is_ascii_digit() {
-            return Some(NumberFlaw::NotDigit);
-        }
+    if !is_digits(bytes) {
+        return Err(NumberFlaw::NotDigit);
     }
-    zero_flaw(bytes)
+    match bytes {
+        [] => Err(NumberFlaw::Empty),
+        [b'0', _, ..] => Err(NumberFlaw::LeadingZero),
+        _ => Ok(()),
+    }
 }
 
 // The number that digits write; past the largest number the largest.
 fn digits_value(digits: &[u8]) -> usize
     ensures { result ≡ capped (digits_value digits.now) }
 {
-    let mut value: usize = 0;
-    for b in digits {
-        value = value
+    digits.iter().fold(0usize, |value, b| {
+        value
             .saturating_mul(10)
-            .saturating_add(b.saturating_sub(b'0') as usize);
-    }
-    value
+            .saturating_add(b.saturating_sub(b'0') as usize)
+    })
 }
 
-// The number that a column holds. One past the largest number of the machine, and so past every limit, is told as the
-// largest.
-pub(crate) fn read_number(line: usize, column: usize, bytes: &[u8]) -> Result<usize, NumberFault>
-    ensures { result ≡ good_by capped (numeral line column bytes.now) }
-{
-    match number_flaw(bytes) {
-        None => Ok(digits_value(bytes)),
-        Some(flaw) => Err(NumberFault { line, column, flaw }),
+impl<'a> Column<'a> {
+    // The number that it holds. One past the largest number of the machine, and so past every limit, is told as the
+    // largest.
+    pub(crate) fn number(&self) -> Result<usize, NumberFault>
+        ensures { result ≡ good_by capped (numeral self.now.line self.now.number self.now.bytes.now) }
+    {
+        let line = self.line;
+        let column = self.number;
+        check_numeral(self.bytes).map_err(|flaw| NumberFault { line, column, flaw })?;
+        Ok(digits_value(self.bytes))
     }
-}
 
-// The letter that a column holds.
-pub(crate) fn read_letter(line: usize, column: usize, bytes: &[u8]) -> Result<char, LineFault>
-    ensures { result ≡ letter line column bytes.now }
-{
-    match bytes {
-        [b] => Ok(*b as char),
-        _ => Err(LineFault::Length { line, column }),
+    // The letter that it holds.
+    pub(crate) fn letter(&self) -> Result<char, LineFault>
+        ensures { result ≡ letter self.now.line self.now.number self.now.bytes.now }
+    {
+        match self.bytes {
+            [b] => Ok(*b as char),
+            _ => Err(LineFault::Length {
+                line: self.line,
+                column: self.number,
+            }),
+        }
     }
 }

@@ -4,8 +4,6 @@ ghost use Rattle.domain.specs.declared.strips.Action.{Action};
 ghost use Rattle.sketch.specs.Fault.{sketch_fault};
 ghost use Rattle.sketch.specs.Sketch.{features_of, rules_of};
 ghost use Rattle.problem.specs.Problem.{features_read, rules_read, most_actions, blank_actions, text_problem, limited_problem, Read};
-ghost use Rattle.problem.specs.Reader.{Sound};
-ghost use Rattle.problem.specs.Tables.{blank_action};
 ghost use Rattle.problem.specs.Text.{read_text, Ends};
 ghost use Rattle.problem.specs.declared.reader.Reader.{Reader};
 
@@ -38,7 +36,6 @@ pub struct Problem {
 impl Reader {
     // The sketch of the features and the rules, if the sieve accepts it.
     fn sketch(&self) -> Result<Sketch, Refusal>
-        requires { Sound self.now }
         ensures faults { MatchResult result (λ _. sketch_fault (features_read self.now) (rules_read self.now) ≡ None) (λ e. sketch_fault (features_read self.now) (rules_read self.now) ≡ Some e) }
         ensures given { IfOk result (λ s. (features_of s ≡ features_read self.now) × (rules_of s ≡ rules_read self.now)) }
     {
@@ -51,30 +48,10 @@ impl Reader {
 // Reads a text with no place for its actions.
 fn check_lines(text: &[u8], limit: usize) -> Result<Reader, LineFault>
     requires { limit ≤ 1024 }
-    ensures value { Ends (read_text limit [] text.now) [] result }
-    ensures sound { IfOk result (λ s. Sound s × (s.limit ≡ limit)) }
+    ensures { Ends (read_text limit [] text.now) [] result }
 {
     let mut places: [Action; 0] = [];
     read_lines(text, limit, &mut places)
-}
-
-// An action that nothing names.
-fn blank_action() -> Action
-    ensures { result ≡ blank_action }
-{
-    Action {
-        preconditions: AtomSet::empty(),
-        additions: AtomSet::empty(),
-        deletions: AtomSet::empty(),
-    }
-}
-
-fn clear(places: &mut [Action])
-    ensures { places.new ≡ replicate (length places.old) blank_action }
-{
-    for place in places.iter_mut() {
-        *place = blank_action();
-    }
 }
 
 // Writes the actions of a text that was found good to places that are as many, or fewer.
@@ -82,7 +59,7 @@ fn fill_actions(text: &[u8], limit: usize, places: &mut [Action])
     requires { limit ≤ 1024 }
     ensures { (s : Reader) (acts : List Action) → length places.old ≤ limit → read_text limit (blank_actions limit) text.now ≡ Ok (s, acts) → places.new ≡ take (length places.old) acts }
 {
-    clear(places);
+    places.fill(Action::default());
     let _ = read_lines(text, limit, places);
 }
 

@@ -2,12 +2,13 @@
 ghost use Rattle.std.specs.Prelude.{◌≡◌, ◌≤◌};
 ghost use Rattle.std.specs.Str.{bytes_eq};
 ghost use Rattle.problem.specs.declared.fault.Table.TheVariants.{Atoms, Actions, Features, Rules};
-ghost use Rattle.problem.specs.Reader.{names_of, after_table, start_of, opened, closed, valued, step, Moves, Sound};
+ghost use Rattle.problem.specs.Reader.{names_of, after_table, start_of, opened, closed, valued, step, Moves};
 
 use crate::fault::{LineFault, Table};
 use crate::line::Line;
 use crate::rows::{read_action_row, read_atom_row, read_feature_row, read_rule_row};
 use crate::tables::{ActionRow, AtomTable, FeatureTable, RuleTable};
+use std::marker::Model;
 
 // What the next line should be.
 #[derive(Clone, Copy)]
@@ -20,8 +21,8 @@ pub enum Wanted {
     Nothing,
 }
 
-// The tables as far as they are read. Of the actions only their number is kept.
-#[derive(Clone, Copy)]
+// The tables as far as they are read. Of the actions only their number is kept. Every count keeps to its limit.
+#[derive(Drop)]
 pub struct Reader {
     // how many actions there may be
     pub limit: usize,
@@ -30,6 +31,16 @@ pub struct Reader {
     pub actions: usize,
     pub features: FeatureTable,
     pub rules: RuleTable,
+}
+
+impl Model for Reader {
+    ghost use Rattle.problem.specs.State.{State, Sound};
+
+    ghost Value = { State };
+
+    ghost view = { λ r. record { limit = r.limit; wanted = r.wanted; atoms = r.atoms; actions = r.actions; features = r.features; rules = r.rules } };
+
+    ghost invariant = { λ r. Sound (record { limit = r.limit; wanted = r.wanted; atoms = r.atoms; actions = r.actions; features = r.features; rules = r.rules }) };
 }
 
 // The line that opens a table.
@@ -66,8 +77,7 @@ fn after_table(table: Table) -> Wanted
 impl Reader {
     pub(crate) fn new(limit: usize) -> Reader
         requires { limit ≤ 1024 }
-        ensures value { result ≡ start_of limit }
-        ensures sound { Sound result }
+        ensures { result ≡ start_of limit }
     {
         Reader {
             limit,
@@ -81,10 +91,7 @@ impl Reader {
 
     // The line should be the names of the table.
     fn open(&mut self, table: Table, line: &Line) -> Result<Option<ActionRow>, LineFault>
-        requires { Sound self.old }
-        ensures value { Moves (opened self.old table line.now.number line.now.bytes.now) self.new result }
-        ensures sound { Sound self.new }
-        ensures kept { self.new.limit ≡ self.old.limit }
+        ensures { Moves (opened self.old table line.now.number line.now.bytes.now) self.new result }
     {
         if opens(line.bytes, table) {
             self.wanted = Wanted::Values(table);
@@ -96,10 +103,7 @@ impl Reader {
 
     // The empty line ends the table.
     fn close(&mut self, table: Table, line: usize) -> Result<Option<ActionRow>, LineFault>
-        requires { Sound self.old }
-        ensures value { Moves (closed self.old table line) self.new result }
-        ensures sound { Sound self.new }
-        ensures kept { self.new.limit ≡ self.old.limit }
+        ensures { Moves (closed self.old table line) self.new result }
     {
         match table {
             Table::Atoms if self.atoms.count == 0 => Err(LineFault::NoAtoms { line }),
@@ -112,10 +116,7 @@ impl Reader {
 
     // One more atom.
     fn add_atom(&mut self, line: &Line) -> Result<Option<ActionRow>, LineFault>
-        requires { Sound self.old }
-        ensures value { Moves (valued self.old Atoms line.now.number line.now.bytes.now) self.new result }
-        ensures sound { Sound self.new }
-        ensures kept { self.new.limit ≡ self.old.limit }
+        ensures { Moves (valued self.old Atoms line.now.number line.now.bytes.now) self.new result }
     {
         let row = read_atom_row(line, self.atoms.count)?;
         self.atoms.add(row);
@@ -124,10 +125,7 @@ impl Reader {
 
     // An atom of an action, which is told.
     fn add_action(&mut self, line: &Line) -> Result<Option<ActionRow>, LineFault>
-        requires { Sound self.old }
-        ensures value { Moves (valued self.old Actions line.now.number line.now.bytes.now) self.new result }
-        ensures sound { Sound self.new }
-        ensures kept { self.new.limit ≡ self.old.limit }
+        ensures { Moves (valued self.old Actions line.now.number line.now.bytes.now) self.new result }
     {
         let row = read_action_row(line, self.atoms.count, self.limit)?;
         self.actions = self.actions.max(row.action + 1);
@@ -136,10 +134,7 @@ impl Reader {
 
     // An atom of a feature.
     fn add_feature(&mut self, line: &Line) -> Result<Option<ActionRow>, LineFault>
-        requires { Sound self.old }
-        ensures value { Moves (valued self.old Features line.now.number line.now.bytes.now) self.new result }
-        ensures sound { Sound self.new }
-        ensures kept { self.new.limit ≡ self.old.limit }
+        ensures { Moves (valued self.old Features line.now.number line.now.bytes.now) self.new result }
     {
         let row = read_feature_row(line, self.atoms.count, &self.features)?;
         self.features.add(row);
@@ -148,10 +143,7 @@ impl Reader {
 
     // What a rule says of a feature.
     fn add_rule(&mut self, line: &Line) -> Result<Option<ActionRow>, LineFault>
-        requires { Sound self.old }
-        ensures value { Moves (valued self.old Rules line.now.number line.now.bytes.now) self.new result }
-        ensures sound { Sound self.new }
-        ensures kept { self.new.limit ≡ self.old.limit }
+        ensures { Moves (valued self.old Rules line.now.number line.now.bytes.now) self.new result }
     {
         let row = read_rule_row(line, self.features.count, &self.rules)?;
         self.rules.add(row);
@@ -160,10 +152,7 @@ impl Reader {
 
     // One line more. The row of a line of the action table is told.
     pub(crate) fn advance(&mut self, line: &Line) -> Result<Option<ActionRow>, LineFault>
-        requires { Sound self.old }
-        ensures value { Moves (step self.old line.now.number line.now.bytes.now) self.new result }
-        ensures sound { Sound self.new }
-        ensures kept { self.new.limit ≡ self.old.limit }
+        ensures { Moves (step self.old line.now.number line.now.bytes.now) self.new result }
     {
         match (self.wanted, line.bytes) {
             (Wanted::TheNames(table), _) => self.open(table, line),

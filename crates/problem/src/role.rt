@@ -1,7 +1,8 @@
 // What an atom is to an action.
-ghost use Rattle.std.specs.Prelude.{◌≡◌, Some};
 ghost use Rattle.problem.specs.Role.{role_char, role_named};
-ghost use Rattle.problem.specs.declared.role.Role.{Role};
+ghost use Rattle.sketch.specs.Letter.{Reads};
+
+use sketch::letter::UnknownLetter;
 
 #[derive(Clone, Copy, PartialEq, Eq, Debug)]
 pub enum Role {
@@ -10,16 +11,17 @@ pub enum Role {
     Deletion,
 }
 
-impl Role {
-    pub(crate) fn from_char(c: char) -> Option<Role>
-        ensures value { result ≡ role_named c }
-        ensures inverse { (k : Role) → c ≡ role_char k → result ≡ Some k }
-    {
-        match c {
-            'p' => Some(Role::Precondition),
-            'a' => Some(Role::Addition),
-            'd' => Some(Role::Deletion),
-            _ => None,
+impl TryFrom<char> for Role {
+    type Error = UnknownLetter;
+
+    ghost try_from_gives = { Reads role_char role_named };
+
+    fn try_from(letter: char) -> Result<Role, UnknownLetter> {
+        match letter {
+            'p' => Ok(Role::Precondition),
+            'a' => Ok(Role::Addition),
+            'd' => Ok(Role::Deletion),
+            _ => Err(UnknownLetter),
         }
     }
 }

@@ -1,14 +1,17 @@
 // The lines of values of each table. Each is checked for its form, then for its ranges, then for its limit.
-ghost use Rattle.std.specs.Prelude.{◌≡◌, ◌<◌, ◌≤◌, IfOk, OnOk};
+ghost use Rattle.std.specs.Prelude.{◌≡◌, ◌<◌, ◌≤◌, Ok, Err, IfOk, OnOk, MatchResult};
+ghost use Rattle.sketch.specs.declared.letter.UnknownLetter.{UnknownLetter};
+ghost use Rattle.problem.specs.declared.fault.LineFault.TheVariants.{Letter};
 ghost use Rattle.problem.specs.Rows.{truth, checked_atom, checked_action, second_kind, checked_feature, checked_entry, checked_rule, atom_row, action_row, feature_row, rule_row};
 
 use crate::fault::{LineFault, Table};
-use crate::form::{read_lettered, read_numbers, read_twice_lettered};
+use crate::form::{read_four, read_three};
 use crate::line::Line;
 use crate::role::Role;
 use crate::tables::{ActionRow, AtomRow, FeatureRow, FeatureTable, RuleRow, RuleTable};
 use domain::model::MAX_ATOMS;
 use sketch::feature::Kind;
+use sketch::letter::UnknownLetter;
 use sketch::rule::{Condition, Effect, Entry};
 
 // The truth value that a number stands for.
@@ -20,6 +23,17 @@ fn check_truth(line: usize, column: usize, number: usize) -> Result<bool, LineFa
         1 => Ok(true),
         _ => Err(LineFault::Truth { line, column }),
     }
+}
+
+// What the letter of a column stands for.
+fn check_letter<T: TryFrom<char, Error = UnknownLetter>>(
+    line: usize,
+    column: usize,
+    letter: char,
+) -> Result<T, LineFault>
+    ensures { MatchResult result (λ x. T.try_from_gives letter (Ok x)) (λ e. (e ≡ Letter line column) × (d : UnknownLetter) × T.try_from_gives letter (Err d)) }
+{
+    T::try_from(letter).map_err(|_| LineFault::Letter { line, column })
 }
 
 // The line of the atom `next`.
@@ -58,9 +72,7 @@ fn check_action(
     ensures value { result ≡ checked_action atoms limit line (action, letter, atom) }
     ensures bound { IfOk result (λ row. row.action < limit) }
 {
-    let Some(role) = Role::from_char(letter) else {
-        return Err(LineFault::Letter { line, column: 2 });
-    };
+    let role: Role = check_letter(line, 2, letter)?;
     if atom >= atoms {
         return Err(LineFault::NoSuchAtom { line });
     }
@@ -76,10 +88,7 @@ fn check_action(
 fn is_second_kind(table: &FeatureTable, feature: usize, kind: Option<Kind>) -> bool
     ensures { result ≡ second_kind table.now feature kind }
 {
-    match kind {
-        Some(kind) => table.has_other_kind(feature, kind),
-        None => false,
-    }
+    kind.is_some_and(|kind| table.has_other_kind(feature, kind))
 }
 
 // A line that gives a feature a kind and an atom.
@@ -95,13 +104,11 @@ fn check_feature(
     ensures value { result ≡ checked_feature atoms table.now line (feature, letter, atom) }
     ensures bound { IfOk result (λ row. row.feature < 8) }
 {
-    let named = Kind::from_char(letter);
-    if is_second_kind(table, feature, named) {
+    let named: Result<Kind, LineFault> = check_letter(line, 2, letter);
+    if is_second_kind(table, feature, named.ok()) {
         return Err(LineFault::SecondKind { line });
     }
-    let Some(kind) = named else {
-        return Err(LineFault::Letter { line, column: 2 });
-    };
+    let kind = named?;
     if atom >= atoms {
         return Err(LineFault::NoSuchAtom { line });
     }
@@ -121,12 +128,8 @@ fn check_feature(
 fn check_entry(line: usize, when: char, then: char) -> Result<Entry, LineFault>
     ensures { result ≡ checked_entry line when then }
 {
-    let Some(when) = Condition::from_char(when) else {
-        return Err(LineFault::Letter { line, column: 3 });
-    };
-    let Some(then) = Effect::from_char(then) else {
-        return Err(LineFault::Letter { line, column: 4 });
-    };
+    let when: Condition = check_letter(line, 3, when)?;
+    let then: Effect = check_letter(line, 4, then)?;
     Ok(Entry { when, then })
 }
 
@@ -166,7 +169,7 @@ pub(crate) fn read_atom_row(line: &Line, next: usize) -> Result<AtomRow, LineFau
     ensures value { result ≡ atom_row next line.now.number line.now.bytes.now }
     ensures bound { OnOk result (next < 256) }
 {
-    let (atom, start, goal) = read_numbers(line)?;
+    let (atom, start, goal) = read_three::<usize, usize, usize>(line)?;
     check_atom(line.number, next, atom, start, goal)
 }
 
@@ -179,7 +182,7 @@ pub(crate) fn read_action_row(
     ensures value { result ≡ action_row atoms limit line.now.number line.now.bytes.now }
     ensures bound { IfOk result (λ row. row.action < limit) }
 {
-    let (action, letter, atom) = read_lettered(line)?;
+    let (action, letter, atom) = read_three::<usize, char, usize>(line)?;
     check_action(line.number, atoms, limit, action, letter, atom)
 }
 
@@ -192,7 +195,7 @@ pub(crate) fn read_feature_row(
     ensures value { result ≡ feature_row atoms table.now line.now.number line.now.bytes.now }
     ensures bound { IfOk result (λ row. row.feature < 8) }
 {
-    let (feature, letter, atom) = read_lettered(line)?;
+    let (feature, letter, atom) = read_three::<usize, char, usize>(line)?;
     check_feature(line.number, atoms, table, feature, letter, atom)
 }
 
@@ -205,6 +208,6 @@ pub(crate) fn read_rule_row(
     ensures value { result ≡ rule_row features table.now line.now.number line.now.bytes.now }
     ensures bound { IfOk result (λ row. (row.rule < 16) × (row.feature < features)) }
 {
-    let (rule, feature, when, then) = read_twice_lettered(line)?;
+    let (rule, feature, when, then) = read_four::<usize, usize, char, char>(line)?;
     check_rule(line.number, features, table, rule, feature, when, then)
 }

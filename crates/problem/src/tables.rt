@@ -130,9 +130,7 @@ impl FeatureTable {
     pub(crate) fn has_other_kind(&self, feature: usize, kind: Kind) -> bool
         ensures { result ≡ other_kind self.now feature kind }
     {
-        feature < 8
-            && self.named[feature]
-            && self.features[feature].kind.to_char() != kind.to_char()
+        feature < 8 && self.named[feature] && self.features[feature].kind != kind
     }
 
     pub(crate) fn add(&mut self, row: FeatureRow)

@@ -1,32 +1,22 @@
 // Examples of good and faulty texts.
 use crate::fault::{LineFault, NumberFault, NumberFlaw, ProblemFault};
 use crate::problem::{MAX_BYTES, read, read_limited};
-use domain::atoms::AtomSet;
 use domain::refusal::Refusal;
 use domain::strips::Action;
 use std::test::Fail;
 
-fn blank() -> Action {
-    Action {
-        preconditions: AtomSet::empty(),
-        additions: AtomSet::empty(),
-        deletions: AtomSet::empty(),
-    }
-}
-
 // The refusal of a text with 64 places for actions.
 fn refusal(text: &[u8]) -> Option<Refusal> {
-    match read(text, &mut [blank(); 64]) {
-        Ok(_) => None,
-        Err(fault) => Some(fault.refusal()),
-    }
+    read(text, &mut [Action::default(); 64])
+        .err()
+        .map(|fault| fault.refusal())
 }
 
 #[test]
 fn two_atoms(rt: HostRuntime) -> Result<(), Fail> {
     let text =
         b"atom start goal\n0 0 1\n1 0 1\n\naction role atom\n0 a 0\n1 a 1\n\nfeature kind atom\n0 f 0\n0 f 1\n\nrule feature when then\n0 0 + -\n\n";
-    let mut actions = [blank(); 3];
+    let mut actions = [Action::default(); 3];
     let Ok(problem) = read(text, &mut actions) else {
         return Err(Fail::new("refused"));
     };
@@ -129,7 +119,7 @@ fn faults_are_held_whole(rt: HostRuntime) -> Result<(), Fail> {
 #[test]
 fn long_texts(rt: HostRuntime) -> Result<(), Fail> {
     let text = [b'a'; 16_385];
-    let mut places = [blank(); 1];
+    let mut places = [Action::default(); 1];
     let Err(long) = read_limited(&text, MAX_BYTES, &mut places) else {
         return Err(Fail::new("read"));
     };
