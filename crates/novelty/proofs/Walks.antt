@@ -1,19 +1,16 @@
 -- The steps of the walk over the tuples, and that it visits the keys of the measure, in their order. Assumes nothing.
-use Rattle.std.proofs.Common.{◌≡◌, ℕ, zero, suc, ◌+◌, ◌-◌, ◌<◌, ◌≤◌, Bool, true, false, ◌||◌, ltb, List, [], ◌∷◌, ◌++◌, map, length, get_or, take, drop, set, filter, sym, refl, ap, ◌∙◌, add-zero, zero-add, add-one, arith}
+use Rattle.std.proofs.Common.{◌≡◌, ℕ, zero, suc, ◌+◌, ◌-◌, ◌<◌, ◌≤◌, Bool, true, false, ◌||◌, nat_lt, List, [], ◌∷◌, ◌++◌, map, length, set, sym, refl, ap, ◌∙◌, add-zero, zero-add, add-one, arith}
 use mathlib.Core.Path.{fun_ext}
 use mathlib.Core.List.{map-map}
-use Rattle.std.specs.List.{AllByRecursion}
-use Rattle.std.proofs.lemmas.List.{map-append, drop_more, drop_all}
-use Rattle.std.proofs.lemmas.Bool.{or_left}
+use Rattle.std.specs.Fn.{Called, Mut}
+use Rattle.std.proofs.lemmas.List.{map-append}
+use Rattle.std.proofs.lemmas.Bool.{le-ltb}
 use Rattle.novelty.specs.Binomials.{choose, smaller}
 use Rattle.novelty.specs.Marks.{unmarked, novel, marked}
-use Rattle.novelty.specs.Tuples.{some_of, sets_of, places, rank, tuple_keys}
-use Rattle.novelty.specs.Walk.{longer, key_with, begun}
-use Rattle.novelty.specs.Keys.{kept_below}
-
--- the keys that are left once that of the tuple itself is done, and the tuples that go on with an atom before xs
-pub onward : ℕ → ℕ → ℕ → ℕ → List ℕ → List ℕ
-onward N k size key xs = map (key_with N size key) (some_of k xs)
+use Rattle.novelty.specs.Tuples.{some_of, sets_of, places, rank}
+use Rattle.novelty.specs.Walk.{longer, key_with, begun, onward, keys_from, keys_behind, Longer, Tries}
+use Rattle.novelty.specs.Walk.Tries.{none, found, later}
+use Rattle.novelty.specs.declared.tuples.walk.Reached.{Reached}
 
 onward_nil : (N k size key : ℕ) → onward N k size key [] ≡ []
 unfolding onward
@@ -34,89 +31,51 @@ begun_is : (N k size key : ℕ) (xs : List ℕ) → begun N k size key xs ≡ ke
 unfolding onward begun key_with
 begun_is N k size key xs = refl
 
-novel_append : (ks ls marks : List ℕ) → novel (ks ++ ls) marks ≡ (novel ks marks || novel ls marks)
-novel_append [] ls marks = refl
-novel_append (k ∷ ks) ls marks = ap (λ b. unmarked marks k || b) (novel_append ks ls marks) ∙ sym (or_assoc (unmarked marks k) _ _)
-  where
-    or_assoc : (a b c : Bool) → ((a || b) || c) ≡ (a || (b || c))
-    or_assoc true b c = refl
-    or_assoc false b c = refl
+-- the tuples that go on with the first of the atoms, then the others
+behind_more : (r n : Reached) (x : ℕ) (xs rest : List ℕ) → r.size < r.measure.now.width → xs ≡ x ∷ rest → Longer r n x rest
+    → keys_behind r xs ≡ keys_from n ++ keys_behind r rest
+behind_more r n x xs rest room split e =
+    let left : r.measure.now.width - r.size ≡ suc (r.measure.now.width - (r.size + 1)) = omega arith in
+    rw (split, e.measure, e.size, e.key, e.rest, left) (onward_cons r.measure.now.atoms (r.measure.now.width - (r.size + 1)) r.size r.key x rest)
 
-marked_append : (ks ls marks : List ℕ) → marked (ks ++ ls) marks ≡ marked ls (marked ks marks)
-marked_append [] ls marks = refl
-marked_append (k ∷ ks) ls marks = marked_append ks ls (set marks k 1)
+module _ {F : Type 0} {g : Mut F (ℕ × Unit {0}) Bool} where
+  tries_found : {p q : F} {ks : List ℕ} {r : Bool} (ls : List ℕ) → r ≡ true → Tries g p ks r q → Tries g p (ks ++ ls) r q
+  tries_found ls e none = absurd cc
+  tries_found ls e (found s) = found s
+  tries_found ls e (later s h) = later s (tries_found ls e h)
 
--- The walk from one tuple: its key, and then a loop over the atoms. `rest i` are the keys from atom i on.
-module _ (N w size key : ℕ) (atoms : List ℕ) where
-  abbrev pub rest : ℕ → List ℕ
-  rest i = onward N (w - size) size key (drop i atoms)
+  tries_on : {p j q : F} {ks ls : List ℕ} {b r : Bool} → b ≡ false → Tries g p ks b j → Tries g j ls r q → Tries g p (ks ++ ls) r q
+  tries_on e none t = t
+  tries_on e (found s) t = absurd cc
+  tries_on e (later s h) t = later s (tries_on e h t)
 
-  abbrev pub whole : ℕ → List ℕ
-  whole from = begun N (w - size) size key (drop from atoms)
+  -- The walk from a tuple: its key, and then a loop over the atoms.
+  module _ (r : Reached) where
+    pub own_found : {p q : F} {b : Bool} → b ≡ true → Called g p (r.key, tt) b q → Tries g p (keys_from r) b q
+    own_found e s = rw begun_is (rw e (found (rw e at s)))
 
-  -- the keys of those that go on with atom i; `next` is the first of them
-  abbrev pub child : ℕ → ℕ → List ℕ
-  child i next = begun N (w - (size + 1)) (size + 1) next (drop (i + 1) atoms)
+    -- where its own key is not passed, the rest decides
+    pub own_not : {p j q : F} {b : Bool} → Called g p (r.key, tt) false j → Tries g j (keys_behind r r.rest.now) b q → Tries g p (keys_from r) b q
+    own_not s h = rw begun_is (later s h)
 
-  rest_more : (i next : ℕ) → size < w → i < length atoms → next ≡ longer N size key (get_or atoms i 0) → rest i ≡ child i next ++ rest (i + 1)
-  rest_more i next l h e =
-      let left : w - size ≡ suc (w - (size + 1)) = omega arith in
-      rw (e, left, drop_more atoms i 0 h) (onward_cons N (w - (size + 1)) size key (get_or atoms i 0) (drop (i + 1) atoms))
+    -- no place is left for an atom
+    pub full : (xs : List ℕ) {p : F} → r.measure.now.width ≤ r.size → Tries g p (keys_behind r xs) (nat_lt r.size r.measure.now.width) p
+    unfolding onward
+    full xs h =
+        let no : r.measure.now.width - r.size ≡ 0 = omega arith in
+        rw (no, le-ltb r.size r.measure.now.width h) none
 
-  -- the loop's end: no atoms are left
-  rest_done : (i : ℕ) → length atoms ≤ i → rest i ≡ []
-  rest_done i h = rw (drop_all i atoms h) (onward_nil N (w - size) size key)
+    -- no atom is left
+    pub done : (xs : List ℕ) {p : F} → length xs ≤ 0 → Tries g p (keys_behind r xs) false p
+    done [] h = rw onward_nil none
+    done (x ∷ xs) h = absurd (omega arith)
 
-  -- or no place for one
-  rest_full : (from : ℕ) → w ≤ size → rest from ≡ []
-  unfolding onward
-  rest_full from h = let full : w - size ≡ 0 = omega arith in rw full refl
+    module _ (n : Reached) (x : ℕ) (xs rest : List ℕ) (room : r.size < r.measure.now.width) (split : xs ≡ x ∷ rest) (e : Longer r n x rest) where
+      pub child_found : {p q : F} → Tries g p (keys_from n) true q → Tries g p (keys_behind r xs) true q
+      child_found h = rw (behind_more r n x xs rest room split e) (tries_found _ refl h)
 
-  module _ (marks : List ℕ) (from : ℕ) where
-    pub novel_own : true ≡ unmarked marks key → true ≡ novel (whole from) marks
-    novel_own e = sym (ap (λ ks. novel ks marks) (begun_is N (w - size) size key (drop from atoms)) ∙ or_left _ _ (sym e))
-
-    -- where its own key is marked, the rest decides
-    novel_rest : false ≡ unmarked marks key → novel (rest from) marks ≡ novel (whole from) marks
-    novel_rest e =
-        ap (λ b. b || novel (rest from) marks) e ∙ sym (ap (λ ks. novel ks marks) (begun_is N (w - size) size key (drop from atoms)))
-
-    pub novel_full : false ≡ unmarked marks key → w ≤ size → false ≡ novel (whole from) marks
-    novel_full e h = sym (ap (λ ks. novel ks marks) (rest_full from h)) ∙ novel_rest e
-
-    module _ (i : ℕ) (so_far : novel (rest i) marks ≡ novel (rest from) marks) where
-      pub novel_end : false ≡ unmarked marks key → length atoms ≤ i → false ≡ novel (whole from) marks
-      novel_end e h = sym (ap (λ ks. novel ks marks) (rest_done i h)) ∙ so_far ∙ novel_rest e
-
-      module _ (next : ℕ) (l : size < w) (h : i < length atoms) (g : next ≡ longer N size key (get_or atoms i 0)) where
-        novel_split : (novel (child i next) marks || novel (rest (i + 1)) marks) ≡ novel (rest from) marks
-        novel_split =
-            sym (ap (λ ks. novel ks marks) (rest_more i next l h g) ∙ novel_append (child i next) (rest (i + 1)) marks) ∙ so_far
-
-        pub novel_found : false ≡ unmarked marks key → true ≡ novel (child i next) marks → true ≡ novel (whole from) marks
-        novel_found e f = ap (λ b. b || novel (rest (i + 1)) marks) f ∙ novel_split ∙ novel_rest e
-
-        pub novel_again : false ≡ novel (child i next) marks → novel (rest (i + 1)) marks ≡ novel (rest from) marks
-        novel_again f = ap (λ b. b || novel (rest (i + 1)) marks) f ∙ novel_split
-
-  -- `first` is the table once the tuple's own key is marked
-  module _ (start first : List ℕ) (own : first ≡ set start key 1) (from : ℕ) where
-    marked_rest : marked (rest from) first ≡ marked (whole from) start
-    marked_rest = ap (marked (rest from)) own ∙ sym (ap (λ ks. marked ks start) (begun_is N (w - size) size key (drop from atoms)))
-
-    pub marked_full : w ≤ size → first ≡ marked (whole from) start
-    marked_full h = sym (ap (λ ks. marked ks first) (rest_full from h)) ∙ marked_rest
-
-    module _ (i : ℕ) (marks : List ℕ) (so_far : marked (rest i) marks ≡ marked (rest from) first) where
-      pub marked_end : length atoms ≤ i → marks ≡ marked (whole from) start
-      marked_end h = sym (ap (λ ks. marked ks marks) (rest_done i h)) ∙ so_far ∙ marked_rest
-
-      pub marked_again : (next : ℕ) (after : List ℕ) → size < w → i < length atoms → next ≡ longer N size key (get_or atoms i 0)
-          → after ≡ marked (child i next) marks → marked (rest (i + 1)) after ≡ marked (rest from) first
-      marked_again next after l h g e =
-          ap (marked (rest (i + 1))) e
-          ∙ sym (ap (λ ks. marked ks marks) (rest_more i next l h g) ∙ marked_append (child i next) (rest (i + 1)) marks)
-          ∙ so_far
+      pub child_not : {p j q : F} {b : Bool} → Tries g p (keys_from n) false j → Tries g j (keys_behind r rest) b q → Tries g p (keys_behind r xs) b q
+      child_not h t = rw (behind_more r n x xs rest room split e) (tries_on refl h t)
 
 -- a rank is the key of the empty set with the members one after the other
 rank_with : (N size key : ℕ) (t : List ℕ) → (smaller N (size + length t) + places (suc size) t) + key ≡ smaller N size + key_with N size key t
@@ -131,18 +90,33 @@ rank_is : (N : ℕ) (t : List ℕ) → key_with N 0 0 t ≡ rank N t
 rank_is N t = let e = rw (zero-add (length t)) at (rank_with N 0 0 t) in omega arith
 
 -- the walk from the empty tuple
-pub begun_ranks : (N k : ℕ) (xs : List ℕ) → begun N k 0 0 xs ≡ map (rank N) (sets_of k xs)
+pub begun_ranks : (N w : ℕ) (xs : List ℕ) → begun N (w - 0) 0 0 xs ≡ map (rank N) (sets_of w xs)
 unfolding begun
-begun_ranks N k xs = ap (λ f. map f (sets_of k xs)) (fun_ext (rank_is N))
+begun_ranks N w xs = let all : w - 0 ≡ w = omega arith in rw all (ap (λ f. map f (sets_of w xs)) (fun_ext (rank_is N)))
 
--- The first n of a list, which are the atoms below N of a set: what the walk asks of them, and what it visits.
-module _ (N n : ℕ) (list atoms : List ℕ) (listed : take n list ≡ filter (λ a. ltb a N) atoms) where
-  walk_over : take (n - 0) list ≡ filter (λ a. ltb a N) atoms
-  walk_over = let whole : n - 0 ≡ n = omega arith in rw whole listed
+-- what calls that read and write a table answer and leave
+module _ {F : Type 0} {g : Mut F (ℕ × Unit {0}) Bool} (table : F → List ℕ) where
+  pub tries_novel : ((p : F) (k : ℕ) (b : Bool) (q : F) → Called g p (k, tt) b q → (b ≡ unmarked (table p) k) × (table q ≡ table p))
+      → {ks : List ℕ} {p q : F} {r : Bool} → Tries g p ks r q → r ≡ novel ks (table p)
+  tries_novel reads none = refl
+  tries_novel reads (found {p = p} {q = q} {k = k} {ks = ks} s) =
+      let e : true ≡ unmarked (table p) k = (reads p k true q s).0 in ap (λ b. b || novel ks (table p)) e
+  tries_novel reads (later {p = p} {j = j} {k = k} {ks = ks} s h) =
+      let e = reads p k false j s in
+      tries_novel reads h ∙ ap (novel ks) e.1 ∙ ap (λ b. b || novel ks (table p)) e.0
 
-  pub walk_below : AllByRecursion (λ a. a < N) (take (n - 0) list)
-  walk_below = rw walk_over (kept_below N atoms)
+  pub tries_marked : (name : F → ℕ)
+      → ((p : F) (k : ℕ) (b : Bool) (q : F) → Called g p (k, tt) b q → (b ≡ false) × (table q ≡ set (table p) k 1) × (name q ≡ name p))
+      → {ks : List ℕ} {p q : F} {r : Bool} → Tries g p ks r q → (table q ≡ marked ks (table p)) × (name q ≡ name p)
+  tries_marked name writes none = (refl, refl)
+  tries_marked name writes (found {p = p} {q = q} {k = k} s) = absurd (let no : true ≡ false = (writes p k true q s).0 in cc)
+  tries_marked name writes (later {p = p} {j = j} {k = k} {ks = ks} s h) =
+      let e = writes p k false j s in
+      let f = tries_marked name writes h in
+      (f.0 ∙ ap (marked ks) e.1, f.1 ∙ e.2)
 
-  pub walk_keys : (w : ℕ) → begun N (w - 0) 0 0 (take (n - 0) list) ≡ tuple_keys N w atoms
-  unfolding tuple_keys
-  walk_keys w = let all : w - 0 ≡ w = omega arith in rw (all, walk_over) (begun_ranks N w (filter (λ a. ltb a N) atoms))
+  -- and so what is left where the name is kept
+  pub tries_left : (name : F → ℕ)
+      → ((p : F) (k : ℕ) (b : Bool) (q : F) → Called g p (k, tt) b q → (b ≡ false) × (table q ≡ set (table p) k 1) × (name q ≡ name p))
+      → {ks : List ℕ} {p q : F} {r : Bool} → Tries g p ks r q → (last : List ℕ) → (name p ≡ name q → last ≡ table q) → last ≡ marked ks (table p)
+  tries_left name writes h last left = let e = tries_marked name writes h in left (sym e.1) ∙ e.0

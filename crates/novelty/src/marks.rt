@@ -5,10 +5,7 @@ ghost use Rattle.novelty.specs.Marks.{unmarked};
 pub(crate) fn is_unmarked(marks: &[u8], key: usize) -> bool
     ensures { result ≡ unmarked marks.now key }
 {
-    match marks.get(key) {
-        Some(mark) => *mark == 0,
-        None => false,
-    }
+    marks.get(key) == Some(&0)
 }
 
 pub(crate) fn put_mark(marks: &mut [u8], key: usize)

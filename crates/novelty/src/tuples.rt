@@ -1,18 +1,23 @@
 // The tuple measure: a key for each set of at most `width` of the true atoms below `atoms`.
-ghost use Rattle.std.specs.Prelude.{◌≡◌, ◌+◌, ◌*◌, ◌^◌, ◌<◌, ◌≤◌, take, Some, None, Ok, Err, filter, nat_lt};
+ghost use Rattle.std.specs.Prelude.{◌≡◌, ◌≤◌, Some, None, Ok, Err, MatchResult};
 ghost use Rattle.domain.specs.Atoms.{members};
 ghost use Rattle.novelty.specs.Tuples.{tuple_count, tuple_keys, tuples_fault, OneToOne};
-ghost use Rattle.novelty.specs.Walk.{longer};
 ghost use Rattle.novelty.specs.Keys.{keys_below};
 ghost use native.Mathlib.Omega.{arith};
 ghost use Rattle.std.proofs.Common.{rules};
 
 mod walk;
 
-use crate::binomials::{binomial, smaller_sets};
+use crate::binomials::smaller_sets;
+use crate::marks::{is_unmarked, put_mark};
 use crate::measure::{MOST_KEYS, Measure};
+use crate::tuples::walk::Reached;
 use domain::atoms::AtomSet;
+use domain::model::MAX_ATOMS;
 use domain::refusal::Refusal;
+
+// No measure takes larger sets.
+const MAX_WIDTH: usize = 3;
 
 #[derive(Clone, Copy, Debug)]
 pub struct Tuples {
@@ -24,50 +29,42 @@ pub struct Tuples {
     ghost counted: { tuple_count atoms width ≤ 65536 },
 }
 
-// Why there is no measure of the sets of at most `width` of so many atoms.
-fn fault(atoms: usize, width: usize) -> Option<Refusal>
-    ensures { result ≡ tuples_fault atoms width }
+// Whether there is a measure of the sets of at most `width` of so many atoms, or why there is none.
+fn check(atoms: usize, width: usize) -> Result<(), Refusal>
+    ensures { MatchResult result (λ _. tuples_fault atoms width ≡ None) (λ e. tuples_fault atoms width ≡ Some e) }
 {
-    if width > 3 || atoms == 0 {
-        return Some(Refusal::Range { place: 0 });
+    if width > MAX_WIDTH || atoms == 0 {
+        return Err(Refusal::Range { place: 0 });
     }
-    if atoms > 256 {
-        return Some(Refusal::Limit { place: 0 });
+    if atoms > MAX_ATOMS {
+        return Err(Refusal::Limit { place: 0 });
     }
     if smaller_sets(atoms, width + 1) > MOST_KEYS {
-        return Some(Refusal::ManyKeys);
+        return Err(Refusal::ManyKeys);
     }
-    None
+    Ok(())
 }
 
 impl Tuples {
+    ghost use Rattle.novelty.specs.Walk.{Tries};
+
     pub fn new(atoms: usize, width: usize) -> Result<Tuples, Refusal>
         ensures answer { elim result [ Ok m ↦ (tuples_fault atoms width ≡ None) × (m.atoms ≡ atoms) × (m.width ≡ width) | Err e ↦ tuples_fault atoms width ≡ Some e ] }
         ensures distinct { OneToOne atoms }
     {
-        match fault(atoms, width) {
-            Some(refusal) => Err(refusal),
-            None => Ok(Tuples { atoms, width }),
-        }
+        check(atoms, width)?;
+        Ok(Tuples { atoms, width })
     }
 
-    // The key of a tuple with one more atom behind its last, where the tuple has `size` atoms and this key.
-    fn longer_key(&self, size: usize, key: usize, atom: u16) -> usize
-        requires atom { atom < self.now.atoms }
-        requires room { size < self.now.width }
-        requires fits { key ≤ size * 2 ^ 33 }
-        ensures value { result ≡ longer self.now.atoms size key atom }
-        ensures fits { result ≤ (size + 1) * 2 ^ 33 }
+    // Whether the test is true of a key of the set. The keys are tried in their order, and none behind the first of which
+    // it is true.
+    fn any_key<F: FnMut(usize) -> bool>(&self, atoms: &AtomSet, test: &mut F) -> bool
+        requires { (state : F) (key : _) → F.pre state key }
+        ensures { Tries F.FnMut test.old (tuple_keys self.now.atoms self.now.width (members atoms.now)) result test.new }
     {
-        key + binomial(self.atoms, size) + binomial(atom as usize, size + 1)
-    }
-
-    // Lists the members of a set that are below the count of atoms, rising, and tells how many they are.
-    fn list_atoms(&self, atoms: &AtomSet, list: &mut [u16; 256]) -> usize
-        ensures few { result ≤ 256 }
-        ensures listed { take result list.new ≡ filter (λ a. nat_lt a self.now.atoms) (members atoms.now) }
-    {
-        atoms.below(self.atoms).list_members(list)
+        let mut list = [0; MAX_ATOMS];
+        let count = atoms.below(self.atoms).list_members(&mut list);
+        Reached::none(self, &list[..count]).any_key(test)
     }
 }
 
@@ -87,14 +84,14 @@ impl Measure for Tuples {
     }
 
     fn is_novel(&self, atoms: &AtomSet, marks: &[u8]) -> bool {
-        let mut list = [0; 256];
-        let count = self.list_atoms(atoms, &mut list);
-        self.unmarked_from(&list[0..count], 0, 0, 0, marks)
+        self.any_key(atoms, &mut |key| is_unmarked(marks, key))
     }
 
     fn mark(&self, atoms: &AtomSet, marks: &mut [u8]) {
-        let mut list = [0; 256];
-        let count = self.list_atoms(atoms, &mut list);
-        self.mark_from(&list[0..count], 0, 0, 0, marks);
+        let mut mark_one = |key| {
+            put_mark(marks, key);
+            false
+        };
+        self.any_key(atoms, &mut mark_one);
     }
 }

@@ -1,9 +1,8 @@
-use Rattle.std.proofs.Common.{rules}
 use Rattle.novelty.specs.Ranks.{one_to_one}
 use Rattle.novelty.proofs.tuples.Tuples.new.Goals as goal
 
-pub returns-in-Some : goal.returns-in-Some
-returns-in-Some c = record { answer = search rules; distinct = one_to_one c.args.atoms }
+pub returns-in_err-check-clause-distinct : goal.returns-in_err-check-clause-distinct
+returns-in_err-check-clause-distinct c = one_to_one c.args.atoms
 
-pub returns-in-None : goal.returns-in-None
-returns-in-None c = record { answer = search rules; distinct = one_to_one c.args.atoms }
+pub returns-clause-distinct : goal.returns-clause-distinct
+returns-clause-distinct c = one_to_one c.args.atoms

@@ -1,19 +1,6 @@
-use Rattle.std.proofs.Common.{ap, ◌∙◌, arith}
-use Rattle.domain.specs.Atoms.{members}
-use Rattle.novelty.specs.Marks.{novel}
-use Rattle.novelty.proofs.Walks.{walk_below, walk_keys}
+use Rattle.std.proofs.Common.{rules}
+use Rattle.novelty.proofs.Walks.{tries_novel}
 use Rattle.novelty.proofs.tuples.TuplesMeasure.is_novel.Goals as goal
 
-pub unmarked_from-requires : goal.unmarked_from-requires
-unmarked_from-requires c =
-    record {
-      atoms = walk_below c.args.self.now.atoms c.list_atoms-count.result c.list_atoms-count.new.list (members c.args.atoms.now) c.list_atoms-count.ensures.listed;
-      depth = omega arith;
-      fits = omega arith;
-    }
-
 pub returns : goal.returns
-returns c =
-    c.unmarked_from.ensures
-    ∙ ap (λ ks. novel ks c.args.marks.now) (walk_keys c.args.self.now.atoms c.list_atoms-count.result
-    c.list_atoms-count.new.list (members c.args.atoms.now) c.list_atoms-count.ensures.listed c.args.self.now.width)
+returns c = tries_novel (λ f. f.0.now) (λ p k b q s. search rules) c.any_key.ensures
