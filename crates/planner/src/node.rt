@@ -2,7 +2,8 @@
 ghost use Rattle.std.specs.Prelude.{◌≡◌};
 ghost use Rattle.planner.specs.Search.{node, link, goes_on};
 
-// A kept state, with its link: the number of the state it was reached from, and the action that led here.
+// A kept state, with its link: the number of the state it was reached from, and the action that led here. The link is
+// two plain numbers, since callers lend these tables: a link that is not to a lower number, as that of 0, is not taken.
 #[derive(Clone, Copy, PartialEq, Eq, Debug)]
 pub struct Node<S> {
     pub state: S,

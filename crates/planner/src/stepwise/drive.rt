@@ -62,10 +62,8 @@ impl<M: Measure + Drop> Search<M> {
         if task.lacks_places(nodes, marks) {
             return Err(Refusal::FewPlaces);
         }
-        let mut progress = self.progress;
-        task.advance(nodes, marks, &mut progress, budget);
-        let told = reply(nodes, &progress);
-        self.progress = progress;
+        task.advance(nodes, marks, &mut self.progress, budget);
+        let told = reply(nodes, &self.progress);
         self.outcome = told.outcome;
         Ok(told)
     }
