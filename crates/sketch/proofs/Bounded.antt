@@ -21,9 +21,6 @@ every_at p n k e = (decides_every p n).0 e k
 pub every_from : (p : ℕ → Bool) (n : ℕ) → ((k : ℕ) → k < n → p k ≡ true) → every_below p n ≡ true
 every_from p n = (decides_every p n).1
 
-pub not_every : (p : ℕ → Bool) (n k : ℕ) → k < n → p k ≡ false → every_below p n ≡ false
-not_every p n k h e = ⊎_elim (λ t. absurd (both_ways (p k) e (every_at p n k t h))) (λ t. t) (cases_Bool (every_below p n))
-
 pub some_from : (p : ℕ → Bool) (n k : ℕ) → k < n → p k ≡ true → some_below p n ≡ true
 some_from p n k h e = (decides_some p n).1 (k, h, e)
 
