@@ -1,9 +1,12 @@
 -- The numbers of a search keep to the count of keys, whatever the memory holds. Assumes nothing.
-use Rattle.std.proofs.Common.{◌≡◌, ℕ, zero, suc, ◌<◌, ◌≤◌, true, not, ltb, is_some, Some, None, Option, sym, refl, subst, arith}
+use Rattle.std.proofs.Common.{◌≡◌, ℕ, zero, suc, ◌<◌, ◌≤◌, true, not, ltb, List, is_some, Some, None, Option, sym, refl, subst, arith}
 use Rattle.std.proofs.lemmas.Bool.{and_parts, cond_both, ltb-true, lt-ltb}
-use Rattle.planner.specs.Search.{Task, Snapshot, tried_from, expand_next, goes_on, advanced, state_at}
+use Rattle.planner.specs.Search.{Task, Snapshot, snap, tried_from, expand_next, goes_on, advanced, state_at}
+use Rattle.planner.specs.Stepwise.{Bounds}
 use Rattle.planner.specs.Whole.{Within, linked}
 use Rattle.planner.specs.declared.node.Link.{Link}
+use Rattle.planner.specs.declared.node.Node.{Node}
+use Rattle.planner.specs.declared.node.Progress.{Progress}
 use Rattle.planner.proofs.Steps.{after_try, after_tries, tried_from_expanded, tried_from_kept}
 
 -- a test that a link is from a number below n, and the fact; a larger bound serves too
@@ -13,7 +16,7 @@ within_from n k None e le = tt
 
 module _ {S : Type 0} (Q : Task S) where
   -- what is expanded and kept, and the number that met a target, are within the count
-  pub record Bounded (g : Snapshot S) : Type 0 where
+  record Bounded (g : Snapshot S) : Type 0 where
     pub kept : g.kept ≤ Q.count
     pub expanded : g.expanded ≤ Q.count
     pub within : linked Q.count g.met ≡ true
@@ -39,12 +42,17 @@ module _ {S : Type 0} (Q : Task S) where
         within = tried_linked s Q.problem.actions g 0 (omega arith) B.within;
       }
 
-  pub advanced_bounded : (n : ℕ) (g : Snapshot S) → Bounded g → Bounded (advanced Q n g)
+  advanced_bounded : (n : ℕ) (g : Snapshot S) → Bounded g → Bounded (advanced Q n g)
   unfolding advanced
   advanced_bounded zero g B = B
   advanced_bounded (suc n) g B =
       cond_both (goes_on g.met g.expanded g.kept) (advanced Q n (expand_next Q g)) g Bounded
       (λ on. advanced_bounded n (expand_next Q g) (expand_bounded g B on)) (λ _. B)
 
-  pub bounded_after : (n : ℕ) (g h : Snapshot S) → Bounded g → h ≡ advanced Q n g → Bounded h
-  bounded_after n g h B e = subst Bounded (sym e) (advanced_bounded n g B)
+  -- the progress keeps to the count over every advance
+  pub bounds_after : (n : ℕ) (nodes nodes' : List (Node S)) (marks marks' : List ℕ) (p p' : Progress) → Bounds Q.count p
+      → snap nodes' marks' p' ≡ advanced Q n (snap nodes marks p) → Bounds Q.count p'
+  bounds_after n nodes nodes' marks marks' p p' B e =
+      let before : Bounded (snap nodes marks p) = record { kept = B.kept; expanded = B.expanded; within = B.within } in
+      let after = subst Bounded (sym e) (advanced_bounded n _ before) in
+      record { some = B.some; few = B.few; kept = after.kept; expanded = after.expanded; within = after.within }
