@@ -4,13 +4,15 @@ use Rattle.std.proofs.ByRecursion.{All-from_get_or}
 use Rattle.std.proofs.lemmas.List.{take_all}
 use Rattle.std.proofs.lemmas.List.Sums.{sum_by-cons, sum_by_more, sum_by-drop_more, sum_by-take-drop}
 use Rattle.std.proofs.lemmas.Bool.{ltb-true, ltb-false, eqb-true, eq-eqb, and_parts, and_cases, or_parts, not-true, not-false, cases_Bool, both_ways, cases_lt, lt-ltb, le-ltb, cond-true, cond-false}
+use Rattle.std.specs.Prelude.{position, option_map}
+use Rattle.domain.specs.Atoms.{upto}
 use Rattle.domain.specs.Boards.{fresh, first_stale, board_fault}
 use Rattle.domain.specs.Model.{among}
 use Rattle.domain.specs.Square.{piece_at, count_of, EachOnce}
 use Rattle.domain.specs.declared.refusal.Refusal.{Refusal}
 use Rattle.domain.specs.declared.refusal.Refusal.TheVariants.{Range}
 use Rattle.domain.proofs.Counts.{pieces_below, each_once_from}
-use Rattle.domain.proofs.Leading.{upto_passes, upto_stops}
+use Rattle.domain.proofs.Leading.{upto_passes, upto_stops, found_front, told_place}
 
 count_cons : (p x : ℕ) (xs : List ℕ) → count_of p (x ∷ xs) ≡ cond (eqb x p) 1 0 + count_of p xs
 unfolding count_of
@@ -107,3 +109,8 @@ not_once_from_check pieces r nine e =
         let f = cond-false {A = Option Refusal} (ltb (first_stale pieces) 9) (Some (Range (first_stale pieces))) None (le-ltb (first_stale pieces) 9 h) in
         let z : ◌≡◌ {A = ℕ} 0 1 = cc in
         omega arith
+
+-- what is wrong with the pieces, by the first cell that is not fresh
+pub board_told : (pieces : List ℕ) (o : Option ℕ) → o ≡ position (λ c. not (fresh pieces c)) (upto 9) → board_fault pieces ≡ option_map Range o
+unfolding first_stale
+board_told pieces o e = told_place (ltb (first_stale pieces) 9) (first_stale pieces) o (e ∙ found_front (fresh pieces) (upto 9))

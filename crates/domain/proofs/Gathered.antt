@@ -1,18 +1,23 @@
 -- A set gathered from a list, and a puzzle whose goal it is. Assumes nothing.
-use Rattle.std.proofs.Common.{◌≡◌, ℕ, ◌+◌, ◌<◌, Bool, true, false, ◌||◌, eqb, List, [], ◌∷◌, ◌++◌, length, get_or, take, Decides, sym, refl, ap, ◌∙◌, arith}
+use Rattle.std.proofs.Common.{◌≡◌, ℕ, ◌+◌, ◌<◌, ◌≤◌, Bool, true, false, not, ◌||◌, eqb, ltb, List, [], ◌∷◌, ◌++◌, length, get_or, take, Option, Decides, sym, refl, ap, ◌∙◌, arith}
 use mathlib.Core.Path.{fun_ext}
+use Rattle.std.specs.Prelude.{position, option_map}
 use Rattle.std.specs.List.{ContainsAt as Has}
 use Rattle.std.proofs.ByRecursion.{all-has, All-weaker, all_has_itself}
 use Rattle.std.proofs.lemmas.List.{take_more}
 use Rattle.std.proofs.lemmas.Bool.Decides.{same_from_decides, nat_tests}
+use Rattle.std.proofs.lemmas.Bool.{cond-false, le-ltb}
 use Rattle.domain.specs.Atoms.{has, members, every}
 use Rattle.domain.specs.Model.{among}
 use Rattle.domain.specs.Puzzle.{puzzle, after, standing}
+use Rattle.domain.specs.PuzzleMade.{first_past, goal_fault}
 use Rattle.domain.specs.Moves.{slides}
 use Rattle.domain.specs.Square.{stands}
 use Rattle.domain.specs.declared.atoms.AtomSet.{AtomSet}
 use Rattle.domain.specs.declared.puzzle.Board.{Board}
+use Rattle.domain.specs.declared.refusal.Refusal.TheVariants.{Range}
 use Rattle.domain.proofs.Among.{decides_among}
+use Rattle.domain.proofs.Leading.{found_front, told_place}
 use Rattle.domain.proofs.Members.{decides_every, decides_members}
 
 among_push : (xs : List ℕ) (x a : ℕ) → among (xs ++ x ∷ []) a ≡ (among xs a || eqb a x)
@@ -58,3 +63,9 @@ same_puzzle start s goal e =
       next = after;
     })
     (fun_ext (λ b. every_gathered (stands b.cells) s goal e))
+
+-- what is wrong with at most nine goal atoms, by the first that is past 80
+pub goal_told : (goal : List ℕ) (o : Option ℕ) → length goal ≤ 9 → o ≡ position (λ a. not (ltb a 81)) goal → goal_fault goal ≡ option_map Range o
+goal_told goal o few e =
+    cond-false (ltb 9 (length goal)) _ _ (le-ltb 9 (length goal) few)
+    ∙ told_place (ltb (first_past goal) (length goal)) (first_past goal) o (e ∙ found_front (λ a. ltb a 81) goal)

@@ -1,9 +1,12 @@
 -- The front of a list that passes a test, by places. Assumes nothing.
-use Rattle.std.proofs.Common.{◌≡◌, ℕ, zero, suc, ◌+◌, ◌<◌, ◌≤◌, Bool, true, false, cond, List, [], ◌∷◌, length, get_or, sym, refl, ap, ◌∙◌, ⊎_elim, one-add, arith}
+use Rattle.std.proofs.Common.{◌≡◌, ℕ, zero, suc, ◌+◌, ◌<◌, ◌≤◌, Bool, true, false, cond, not, ltb, List, [], ◌∷◌, length, get_or, Some, None, Option, sym, refl, ap, ◌∙◌, ⊎_elim, one-add, arith}
+use mathlib.Core.Path.{fun_ext}
+use Rattle.std.specs.Prelude.{position, option_map}
 use Rattle.std.specs.List.{prefix_len}
 use Rattle.std.proofs.lemmas.List.{length_push, get_or_push, get_or_append_left}
-use Rattle.std.proofs.lemmas.Bool.{cond-true, cond-false, cases_eq}
+use Rattle.std.proofs.lemmas.Bool.{cond-true, cond-false, cases_eq, cases_lt, not-true, lt-ltb}
 use Rattle.domain.specs.Atoms.{upto}
+use Rattle.domain.specs.declared.refusal.Refusal.TheVariants.{Range}
 
 -- every element before the front's end passes
 pub leading_passes : {X : Type 0} (p : X → Bool) (xs : List X) (k : ℕ) (d : X) → k < prefix_len p xs → p (get_or xs k d) ≡ true
@@ -60,3 +63,30 @@ upto_passes p n k h all = ap p (sym (getD_upto n k h)) ∙ leading_passes p (upt
 pub upto_stops : (p : ℕ → Bool) (n : ℕ) → prefix_len p (upto n) < n → p (prefix_len p (upto n)) ≡ false
 upto_stops p n h =
     ap p (sym (getD_upto n (prefix_len p (upto n)) h)) ∙ leading_stops p (upto n) 0 (omega (arith, length_upto n))
+
+-- the place of the first element that fails, if there is one: it is where the front that passes ends
+pub found_front : {X : Type 0} (p : X → Bool) (xs : List X)
+    → position (λ x. not (p x)) xs ≡ cond (ltb (prefix_len p xs) (length xs)) (Some (prefix_len p xs)) None
+found_front {X} p xs =
+    ap (λ (q : X → Bool). cond {A = Option ℕ} (ltb (prefix_len q xs) (length xs)) (Some (prefix_len q xs)) None) (fun_ext (λ x. twice (p x)))
+  where
+    twice : (b : Bool) → not (not b) ≡ b
+    twice true = refl
+    twice false = refl
+
+-- what is refused for that place
+pub told_place : (b : Bool) (n : ℕ) (o : Option ℕ) → o ≡ cond b (Some n) None → cond b (Some (Range n)) None ≡ option_map Range o
+told_place true n o e = ap (λ (p : Option ℕ). option_map Range p) (sym e)
+told_place false n o e = ap (λ (p : Option ℕ). option_map Range p) (sym e)
+
+-- where there is no place of an element that passes, each fails
+pub none_passes : {X : Type 0} (p : X → Bool) (xs : List X) → position p xs ≡ None → (k : ℕ) (d : X) → k < length xs → p (get_or xs k d) ≡ false
+none_passes p xs e k d h =
+    not-true _ (leading_passes (λ x. not (p x)) xs k d
+    (⊎_elim (λ l. absurd (told l)) (λ l. omega arith) (cases_lt (prefix_len (λ x. not (p x)) xs) (length xs))))
+  where
+    told : prefix_len (λ x. not (p x)) xs < length xs → ⊥
+    told l =
+        let f = cond-true {A = Option ℕ} (ltb (prefix_len (λ x. not (p x)) xs) (length xs)) (Some (prefix_len (λ x. not (p x)) xs)) None (lt-ltb _ _ l) in
+        let z : ◌≡◌ {A = ℕ} 0 1 = cc in
+        omega arith

@@ -10,7 +10,6 @@ pub mod Members
 pub mod Next
 pub mod Sets
 pub mod Standing
-pub mod Table
 pub mod Tally
 pub mod Trailing
 pub mod Undone

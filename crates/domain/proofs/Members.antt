@@ -1,10 +1,10 @@
 -- The list of members against membership. Assumes nothing.
-use Rattle.std.proofs.Common.{◌≡◌, ℕ, zero, suc, ◌+◌, ◌-◌, ◌<◌, ◌≤◌, Bool, true, false, cond, ◌&&◌, ltb, List, [], ◌∷◌, ◌++◌, Decides, filter, sym, refl, ap, ◌∙◌, subst, ap₂, ⊎_elim, add-zero, add-suc, add-one, arith}
+use Rattle.std.proofs.Common.{◌≡◌, ℕ, zero, suc, ◌+◌, ◌-◌, ◌<◌, ◌≤◌, Bool, true, false, cond, not, ◌&&◌, eqb, ltb, List, [], ◌∷◌, ◌++◌, Decides, filter, sym, refl, ap, ◌∙◌, subst, ap₂, ⊎_elim, add-zero, add-suc, arith}
 use mathlib.Core.Path.{fun_ext}
 use Rattle.std.specs.List.{ContainsAt as Has, AllByRecursion}
 use Rattle.std.proofs.ByRecursion.{all-has, kept_by_passes, has_append_left, has_push, all_has_itself, All-weaker, Decides-by_and}
 use Rattle.std.proofs.lemmas.List.{append-nil}
-use Rattle.std.proofs.lemmas.Bool.{cases_eq, ltb-true, lt-ltb, cond-true, cond-false, and_parts}
+use Rattle.std.proofs.lemmas.Bool.{cases_eq, eq-eqb, ne_eqb, ltb-true, lt-ltb, cond-true, cond-false, and_parts, and_right}
 use Rattle.std.proofs.lemmas.Bool.Decides.{Decides-like}
 use Rattle.domain.specs.Atoms.{has, upto, members, limited, every, within, NoneFrom, FirstFrom}
 use Rattle.domain.specs.Listed.{kept_upto_suc}
@@ -48,16 +48,42 @@ kept_up_to p m n h none =
     let e : n ≡ m + (n - m) = omega arith in
     ap (λ (k : ℕ). filter p (upto k)) e ∙ kept_none p m (n - m) (λ b l k. none b l (omega arith))
 
--- the members below m and the lowest at or past m are the members up to that one
-pub kept_to_first : (s : AtomSet) (m a : ℕ) → FirstFrom s m a → filter (has s) (upto (a + 1)) ≡ filter (has s) (upto m) ++ a ∷ []
-kept_to_first s m a first =
-    ap (λ (k : ℕ). filter (has s) (upto k)) (add-one a) ∙ kept_upto_suc (has s) a
-    ∙ ap₂ ◌++◌ (kept_up_to (has s) m a first.0 first.2) (cond-true (has s a) (a ∷ []) [] first.1)
+-- the lowest number that passes comes first, and then those that pass besides
+first_kept : (p q : ℕ → Bool) (a : ℕ) → p a ≡ true → ((b : ℕ) → b < a → p b ≡ false) → ((b : ℕ) → q b ≡ (p b && not (eqb b a))) → (n : ℕ) → a < n
+    → filter p (upto n) ≡ a ∷ filter q (upto n)
+first_kept p q a here before same zero h = absurd (omega arith)
+first_kept p q a here before same (suc m) h = ⊎_elim last (λ ne. later ne (first_kept p q a here before same m (omega arith))) (cases_eq a m)
+  where
+    others : (b : ℕ) → (b ≡ a → ⊥) → q b ≡ p b
+    others b ne = same b ∙ and_yes (p b) (not (eqb b a)) (ap not (ne_eqb b a ne))
 
--- where no member is at or past m, the members are those below m
-pub members_up_to : (s : AtomSet) (m : ℕ) → m ≤ 256 → NoneFrom s m → members s ≡ filter (has s) (upto m)
+    itself : q a ≡ false
+    itself = same a ∙ and_right (p a) (not (eqb a a)) (ap not (eq-eqb a a refl))
+
+    last : a ≡ m → filter p (upto (suc m)) ≡ a ∷ filter q (upto (suc m))
+    last e =
+        kept_upto_suc p m
+        ∙ ap₂ ◌++◌ (kept_up_to p 0 m (omega arith) (λ b _ l. before b (omega arith))) (cond-true (p m) (m ∷ []) [] (ap p (sym e) ∙ here))
+        ∙ ap (λ (k : ℕ). k ∷ []) (sym e)
+        ∙ ap (λ (ys : List ℕ). a ∷ ys)
+        (sym (kept_upto_suc q m
+        ∙ ap₂ ◌++◌ (kept_up_to q 0 m (omega arith) (λ b _ l. others b (λ f. omega arith) ∙ before b (omega arith))) (cond-false (q m) (m ∷ []) [] (ap q (sym e) ∙ itself))))
+
+    later : (a ≡ m → ⊥) → filter p (upto m) ≡ a ∷ filter q (upto m) → filter p (upto (suc m)) ≡ a ∷ filter q (upto (suc m))
+    later ne rest =
+        kept_upto_suc p m
+        ∙ ap₂ (λ (xs : List ℕ) (b : Bool). xs ++ cond b (m ∷ []) []) rest (sym (others m (λ e. ne (sym e))))
+        ∙ ap (λ (ys : List ℕ). a ∷ ys) (sym (kept_upto_suc q m))
+
+-- the lowest member comes first, and then the others
+pub members_first : (s t : AtomSet) (a : ℕ) → FirstFrom s 0 a → ((b : ℕ) → has t b ≡ (has s b && not (eqb b a))) → members s ≡ a ∷ members t
 unfolding members
-members_up_to s m h none = kept_up_to (has s) m 256 h (λ b l _. none b l)
+members_first s t a first same =
+    first_kept (has s) (has t) a first.1 (λ b l. first.2 b (omega arith) l) same 256 (has_below s a first.1)
+
+pub no_members : (s : AtomSet) → NoneFrom s 0 → members s ≡ []
+unfolding members
+no_members s none = kept_up_to (has s) 0 256 (omega arith) (λ b l _. none b l)
 
 kept_twice : {X : Type 0} (p q : X → Bool) (xs : List X) → filter (λ x. p x && q x) xs ≡ filter q (filter p xs)
 kept_twice p q [] = refl

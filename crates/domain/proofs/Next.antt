@@ -1,57 +1,59 @@
--- The next member from a place on, by the rest of its word. Assumes nothing.
-use Rattle.std.proofs.Common.{◌≡◌, ℕ, ◌+◌, ◌-◌, ◌*◌, ◌/◌, ◌%◌, ◌^◌, ◌<◌, ◌≤◌, false, sym, ap, ◌∙◌, ap₂, ⊎_elim, lt_of_le_of_lt, arith}
+-- The lowest member, by the first word that has one, and the lowest from a place on. Assumes nothing.
+use Rattle.std.proofs.Common.{◌≡◌, ℕ, ◌+◌, ◌*◌, ◌/◌, ◌%◌, ◌^◌, ◌<◌, ◌≤◌, Bool, true, false, not, ◌&&◌, ltb, Some, None, Option, sym, refl, ap, ◌∙◌, ⊎_elim, arith, MatchOption}
 use lib.Count.{count_trailing_zeros}
-use lib.Pow.{shr_le}
-use Rattle.std.proofs.lemmas.Bool.{cases_lt, both_ways}
-use Rattle.domain.specs.Atoms.{word, has, FirstFrom}
+use Rattle.std.proofs.lemmas.Bool.{cases_lt, both_ways, lt-ltb, le-ltb}
+use Rattle.domain.specs.Atoms.{word, has, NoneFrom, FirstFrom}
 use Rattle.domain.specs.Words.{bit}
 use Rattle.domain.specs.Listed.{bit_past}
 use Rattle.domain.specs.declared.atoms.AtomSet.{AtomSet}
-use Rattle.domain.proofs.Bit.{bit_shr, bit_zero}
-use Rattle.domain.proofs.Sets.{has_inside}
+use Rattle.domain.proofs.Bit.{bit_zero}
+use Rattle.domain.proofs.Sets.{has_inside, has_at}
 use Rattle.domain.proofs.Trailing.{First, trailing_first}
 
--- the bits of the word of `at`, from `at` on
-abbrev pub rest_at : AtomSet → ℕ → ℕ
-rest_at s at = word s (at / 64) / 2 ^ (at % 64)
+-- the lowest set bit of the first word that has one is the lowest member
+module _ (s : AtomSet) (i : ℕ) (inside : i < 4) (short : word s i < 2 ^ 64) (some : 0 < word s i) (before : (k : ℕ) → k < i → word s k ≡ 0) where
+  abbrev lowest : ℕ
+  lowest = count_trailing_zeros 64 (word s i)
 
-module _ (s : AtomSet) (at : ℕ) (inside : at < 256) where
-  has_rest : (j : ℕ) → at % 64 + j < 64 → has s (at + j) ≡ bit (rest_at s at) j
-  has_rest j h =
-      has_inside s (at + j) (omega arith)
-      ∙ ap₂ (λ (x y : ℕ). bit (word s x) y) (let e : (at + j) / 64 ≡ at / 64 = omega arith in e) (let e : (at + j) % 64 ≡ at % 64 + j = omega arith in e)
-      ∙ sym (bit_shr (word s (at / 64)) (at % 64) j)
+  first : First (word s i) lowest
+  first = trailing_first 64 (word s i) short some
 
-  -- in the rest of the word, a place is the place from `at` on
-  has_from : (b : ℕ) → at ≤ b → at % 64 + (b - at) < 64 → has s b ≡ bit (rest_at s at) (b - at)
-  has_from b h l = ap (has s) (let e : b ≡ at + (b - at) = omega arith in e) ∙ has_rest (b - at) l
+  in_word : lowest < 64
+  in_word = ⊎_elim (λ h. h) (λ h. absurd (both_ways (bit (word s i) lowest) (bit_past (word s i) 64 lowest short h) first.0)) (cases_lt lowest 64)
 
-  pub none_in_word : rest_at s at ≡ 0 → (b : ℕ) → at ≤ b → b < (at / 64 + 1) * 64 → has s b ≡ false
-  none_in_word e b h l = has_from b h (omega arith) ∙ ap (λ (w : ℕ). bit w (b - at)) e ∙ bit_zero (b - at)
+  none_below : (b : ℕ) → b < 64 * i + lowest → has s b ≡ false
+  none_below b h = has_inside s b (omega (arith, in_word)) ∙ ⊎_elim earlier (λ l. here (omega (arith, in_word))) (cases_lt (b / 64) i)
+    where
+      earlier : b / 64 < i → bit (word s (b / 64)) (b % 64) ≡ false
+      earlier l = ap (λ (w : ℕ). bit w (b % 64)) (before (b / 64) l) ∙ bit_zero (b % 64)
 
-  module _ (short : word s (at / 64) < 2 ^ 64) (some : 0 < rest_at s at) where
-    first : First (rest_at s at) (count_trailing_zeros 64 (rest_at s at))
-    first = trailing_first 64 (rest_at s at) (lt_of_le_of_lt (shr_le (word s (at / 64)) (at % 64)) short) some
+      here : b / 64 ≡ i → bit (word s (b / 64)) (b % 64) ≡ false
+      here e = ap (λ (k : ℕ). bit (word s k) (b % 64)) e ∙ first.1 (b % 64) (omega arith)
 
-    pub next_in_word : at % 64 + count_trailing_zeros 64 (rest_at s at) < 64
-    next_in_word =
-        let t = count_trailing_zeros 64 (rest_at s at) in
-        ⊎_elim (λ h. h)
-        (λ h. absurd (both_ways (bit (rest_at s at) t)
-        (bit_shr (word s (at / 64)) (at % 64) t ∙ bit_past (word s (at / 64)) 64 (at % 64 + t) short h) first.0))
-        (cases_lt (at % 64 + t) 64)
+  pub first_found : FirstFrom s 0 (64 * i + lowest)
+  first_found = (omega arith, has_at s i lowest inside in_word ∙ first.0, λ b _ l. none_below b l)
 
-    pub next_first : FirstFrom s at (at + count_trailing_zeros 64 (rest_at s at))
-    next_first = (
-      omega arith,
-      has_rest (count_trailing_zeros 64 (rest_at s at)) next_in_word ∙ first.0,
-      λ b h l. has_from b h (omega (arith, next_in_word)) ∙ first.1 (b - at) (omega arith),
-    )
+-- d has the members of s but for those below `from`: its lowest is the lowest of s at or past `from`
+pub first_of_rest : (s d : AtomSet) (from : ℕ) (o : Option ℕ) → ((a : ℕ) → has d a ≡ (has s a && not (has s a && ltb a from)))
+    → MatchOption o (NoneFrom d 0) (FirstFrom d 0) → MatchOption o (NoneFrom s from) (FirstFrom s from)
+first_of_rest s d from o rest = by_case o
+  where
+    kept : (x y : Bool) → y ≡ false → (x && not (x && y)) ≡ x
+    kept true y e = ap not e
+    kept false y e = refl
 
--- a search that has passed no member up to `at` may go on from there
-pub first_from_later : (s : AtomSet) (from at a : ℕ) → from ≤ at → ((b : ℕ) → from ≤ b → b < at → has s b ≡ false) → FirstFrom s at a → FirstFrom s from a
-first_from_later s from at a h none later = (
-  omega (arith, later.0),
-  later.1,
-  λ b l m. ⊎_elim (none b l) (λ k. later.2 b k m) (cases_lt b at),
-)
+    gone : (x y : Bool) → y ≡ true → (x && not (x && y)) ≡ false
+    gone true y e = ap not e
+    gone false y e = refl
+
+    past : (a : ℕ) → from ≤ a → has d a ≡ has s a
+    past a l = rest a ∙ kept (has s a) (ltb a from) (le-ltb a from l)
+
+    low : (a : ℕ) → a < from → has d a ≡ false
+    low a l = rest a ∙ gone (has s a) (ltb a from) (lt-ltb a from l)
+
+    by_case : (o : Option ℕ) → MatchOption o (NoneFrom d 0) (FirstFrom d 0) → MatchOption o (NoneFrom s from) (FirstFrom s from)
+    by_case None none = λ a l. sym (past a l) ∙ none a (omega arith)
+    by_case (Some a) found =
+        let l : from ≤ a = ⊎_elim (λ m. absurd (both_ways (has d a) (low a m) found.1)) (λ m. m) (cases_lt a from) in
+        (l, sym (past a l) ∙ found.1, λ b m n. sym (past b m) ∙ found.2 b (omega arith) n)

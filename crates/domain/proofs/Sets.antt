@@ -1,12 +1,12 @@
 -- Each operation on sets, by membership. Assumes nothing.
-use Rattle.std.proofs.Common.{◌≡◌, ℕ, zero, suc, ◌+◌, ◌-◌, ◌*◌, ◌/◌, ◌%◌, ◌^◌, ◌<◌, ◌≤◌, Bool, true, false, not, ◌&&◌, ◌||◌, eqb, ltb, List, length, set, sym, refl, ap, ◌∙◌, ap₂, ⊎_elim, arith}
+use Rattle.std.proofs.Common.{◌≡◌, ℕ, zero, suc, ◌+◌, ◌-◌, ◌*◌, ◌/◌, ◌%◌, ◌^◌, ◌<◌, ◌≤◌, Bool, true, false, not, ◌&&◌, ◌||◌, eqb, ltb, List, length, get_or, set, sym, refl, ap, ◌∙◌, ap₂, ⊎_elim, arith}
 use lib.Bits.{bit_and, bit_or}
 use Rattle.std.proofs.lemmas.Nat.{pow_below}
-use Rattle.std.proofs.lemmas.List.{get_or-set_same, get_or-set_other}
+use Rattle.std.proofs.lemmas.List.{ext_get_or, get_or-set_same, get_or-set_other}
 use Rattle.std.proofs.lemmas.Bool.{cases_lt, cases_eq, lt-ltb, le-ltb, ne_eqb, and_left}
 use Rattle.std.proofs.lemmas.Bool.Decides.{nat_tests}
 use Rattle.domain.specs.Atoms.{word, has, none, wordwise, unite, common, without, with_atom, without_atom, limited}
-use Rattle.domain.specs.Words.{Short, bit, complement}
+use Rattle.domain.specs.Words.{Short, bit, complement, zipped}
 use Rattle.domain.specs.Listed.{limited_word}
 use Rattle.domain.specs.declared.atoms.AtomSet.{AtomSet}
 use Rattle.domain.proofs.Bit.{bit_of_or, bit_of_and, bit_mod, bit_pow, bit_zero, bit_complement}
@@ -61,6 +61,13 @@ module _ (f : ℕ → ℕ → ℕ) (g : Bool → Bool → Bool) (off : g false f
       has_from_bits (wordwise f s t) (λ a. g (has s a) (has t a))
       (λ i j h l. ap (λ (w : ℕ). bit w j) (at_word i h) ∙ law i j h l ∙ sym (ap₂ g (has_at s i j h l) (has_at t i j h l)))
       (λ a h. ap₂ g (has_past s a h) (has_past t a h) ∙ off)
+
+-- a row of four words that are f of the words of s and t
+pub wordwise_is : (f : ℕ → ℕ → ℕ) (s t : AtomSet) (row : List ℕ) → length row ≡ 4
+    → ((i : ℕ) → i < 4 → get_or row i 0 ≡ f (word s i) (word t i)) → row ≡ zipped f s.words t.words
+wordwise_is f s t row long each =
+    ext_get_or 0 row (zipped f s.words t.words) long
+    (λ i h. each i (omega arith) ∙ sym (by_words (λ k. word (wordwise f s t) k ≡ f (word s k) (word t k)) refl refl refl refl i (omega arith)))
 
 pub has_unite : (s t : AtomSet) (a : ℕ) → has (unite s t) a ≡ (has s a || has t a)
 has_unite s t = has_wordwise bit_or ◌||◌ refl s t (λ i j _ _. bit_of_or (word s i) (word t i) j)

@@ -1,8 +1,9 @@
 -- How many numbers below n pass a test, and the number of members by the set bits of the words. Assumes nothing.
-use Rattle.std.proofs.Common.{◌≡◌, ℕ, zero, suc, ◌+◌, ◌*◌, ◌/◌, ◌%◌, ◌^◌, ◌<◌, ◌≤◌, Bool, true, false, cond, eqb, ltb, [], ◌∷◌, length, filter, sym, refl, ap, ◌∙◌, subst, ap₂, add-zero, add-suc, mod-lt, add_comm, one-add, arith, lit<, length-append, pow_pos}
+use Rattle.std.proofs.Common.{◌≡◌, ℕ, zero, suc, ◌+◌, ◌*◌, ◌/◌, ◌%◌, ◌^◌, ◌<◌, ◌≤◌, Bool, true, false, cond, eqb, ltb, List, [], ◌∷◌, ◌++◌, length, get_or, sum_by, filter, sym, refl, ap, ◌∙◌, subst, ap₂, add-zero, add-suc, mod-lt, add_comm, one-add, arith, lit<, length-append, pow_pos}
 use lib.Pow.{split}
-use lib.Count.{ones, ones_cat}
+use lib.Count.{ones, ones_cat, ones-le}
 use Rattle.std.proofs.lemmas.Nat.{shr_below}
+use Rattle.std.proofs.lemmas.List.Sums.{sum_by-cons}
 use Rattle.std.proofs.lemmas.Bool.{lt-ltb}
 use Rattle.domain.specs.Atoms.{word, has, upto, members}
 use Rattle.domain.specs.Words.{bit, total}
@@ -79,7 +80,24 @@ pub length_tally : (s : AtomSet) → length (members s) ≡ tally (has s) 256
 unfolding members tally
 length_tally s = refl
 
+-- where one member is still to come, fewer than 256 came before it
+pub room_for : (s : AtomSet) (before : List ℕ) (a : ℕ) (after : List ℕ) → before ++ a ∷ after ≡ members s → length before < 256
+unfolding members
+room_for s before a after e = omega (arith, kept_le (has s) 256, ap length e, length-append before (a ∷ after))
+
 pub length_members : (s : AtomSet) → Sized s → length (members s) ≡ total s.words
 length_members s fits =
     length_tally s
     ∙ omega (arith, tally_zero (has s), tally_word s 0 (lit< tt) (fits 0 (lit< tt)), tally_word s 1 (lit< tt) (fits 1 (lit< tt)), tally_word s 2 (lit< tt) (fits 2 (lit< tt)), tally_word s 3 (lit< tt) (fits 3 (lit< tt)))
+
+-- the set bits of four words, added up
+pub ones_total : (xs : List ℕ) → length xs ≡ 4 → ((i : ℕ) → get_or xs i 0 < 2 ^ 64) → (sum_by ones xs ≡ total xs) × (total xs ≤ 256)
+ones_total [] e fits = absurd (omega arith)
+ones_total (a ∷ []) e fits = absurd (omega arith)
+ones_total (a ∷ b ∷ []) e fits = absurd (omega arith)
+ones_total (a ∷ b ∷ c ∷ []) e fits = absurd (omega arith)
+ones_total (a ∷ b ∷ c ∷ d ∷ []) e fits = (
+  omega (arith, sum_by-cons ones a (b ∷ c ∷ d ∷ []), sum_by-cons ones b (c ∷ d ∷ []), sum_by-cons ones c (d ∷ []), sum_by-cons ones d []),
+  omega (arith, ones-le 64 a (fits 0), ones-le 64 b (fits 1), ones-le 64 c (fits 2), ones-le 64 d (fits 3)),
+)
+ones_total (a ∷ b ∷ c ∷ d ∷ x ∷ xs) e fits = absurd (omega arith)

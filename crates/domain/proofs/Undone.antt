@@ -4,7 +4,7 @@ use Rattle.std.proofs.ByRecursion.{has_get_or}
 use Rattle.std.proofs.lemmas.List.{length-set, length-take-le, get_or-take, get_or-set_same, get_or-set_other, set-set, set_comm, set-get_or}
 use Rattle.std.proofs.lemmas.Bool.{cond-true, ltb-true, lt-ltb, eqb-true, eq-eqb, ne_eqb, not-true, not-false, not_from_true, not_from_false, cases_eq, cases_lt, false≢true}
 use Rattle.domain.specs.Model.{among}
-use Rattle.domain.specs.Moves.{direction_of, opposite_of, neighbour, destination, traded, shifted, slid, slides}
+use Rattle.domain.specs.Moves.{direction_of, turned, opposite_of, neighbour, destination, traded, shifted, slid, slides}
 use Rattle.domain.specs.Puzzle.{after, Undoes}
 use Rattle.domain.specs.PuzzleLaws.{same_board, after_cells, no_direction}
 use Rattle.domain.specs.Slides.{gap_below, destination_inside, Inside}
@@ -15,19 +15,12 @@ use Rattle.domain.proofs.Among.{decides_among}
 use Rattle.domain.proofs.Fresh.{twice}
 use Rattle.domain.proofs.Leading.{leading_is, leading_passes, leading_stops}
 
-turned : Direction → Direction
-turned Up = Down
-turned Down = Up
-turned Left = Right
-turned Right = Left
-
 if_some : (b : Bool) (x d : ℕ) → cond b (Some x) None ≡ Some d → (b ≡ true) × (x ≡ d)
 if_some true x d e = (refl, cc)
 if_some false x d e = let z : ◌≡◌ {A = ℕ} 0 1 = cc in absurd (omega arith)
 
 -- the cell is the neighbour of its neighbour, the other way
 neighbour_back : (c : ℕ) (w : Direction) (d : ℕ) → c < 9 → neighbour c w ≡ Some d → (neighbour d (turned w) ≡ Some c) × (d ≡ c → ⊥)
-unfolding turned
 neighbour_back c Up d h e =
     let p = if_some (ltb 0 (row c)) (c - 3) d e in
     let f = ltb-true 0 (row c) p.0 in
@@ -50,7 +43,6 @@ neighbour_back c Right d h e =
     (cond-true (ltb 0 (column d)) (Some (d - 1)) None (lt-ltb 0 (column d) (omega arith)) ∙ ap {B = Option ℕ} Some g, λ q. omega arith)
 
 direction_back : (a : ℕ) (w : Direction) → direction_of a ≡ Some w → direction_of (opposite_of a) ≡ Some (turned w)
-unfolding turned
 direction_back zero w e = let q : Up ≡ w = cc in ap {B = Option Direction} (λ v. Some (turned v)) q
 direction_back (suc zero) w e = let q : Down ≡ w = cc in ap {B = Option Direction} (λ v. Some (turned v)) q
 direction_back (suc (suc zero)) w e = let q : Left ≡ w = cc in ap {B = Option Direction} (λ v. Some (turned v)) q

@@ -13,7 +13,7 @@ use Rattle.domain.proofs.Members.{decides_within}
 or_zero : (w v : ℕ) → bit_or w v ≡ 0 → (w ≡ 0) × (v ≡ 0)
 or_zero w v e = omega (arith, or_add_and w v, and_le_l w v, and_le_r w v)
 
-none_from_words : (s : AtomSet) → ((i : ℕ) → i < 4 → word s i ≡ 0) → (a : ℕ) → has s a ≡ false
+pub none_from_words : (s : AtomSet) → ((i : ℕ) → i < 4 → word s i ≡ 0) → (a : ℕ) → has s a ≡ false
 none_from_words s each = has_from_bits s (λ _. false) (λ i j h _. ap (λ (w : ℕ). bit w j) (each i h) ∙ bit_zero j) (λ _ _. refl)
 
 words_from_none : (s : AtomSet) → Sized s → ((a : ℕ) → has s a ≡ false) → (i : ℕ) → i < 4 → word s i ≡ 0

@@ -9,7 +9,21 @@ abbrev pub direction_of : ℕ → Option Direction
 direction_of a =
     cond (a == 0) (Some Up) (cond (a == 1) (Some Down) (cond (a == 2) (Some Left) (cond (a == 3) (Some Right) None)))
 
--- up and down, left and right take each other's place; other numbers stay
+-- the action that goes a way
+abbrev pub action_of : Direction → ℕ
+action_of Up = 0
+action_of Down = 1
+action_of Left = 2
+action_of Right = 3
+
+-- up and down, left and right take each other's place
+abbrev pub turned : Direction → Direction
+turned Up = Down
+turned Down = Up
+turned Left = Right
+turned Right = Left
+
+-- the same of the actions' numbers; other numbers stay
 abbrev pub opposite_of : ℕ → ℕ
 opposite_of a = cond (a == 0) 1 (cond (a == 1) 0 (cond (a == 2) 3 (cond (a == 3) 2 a)))
 

@@ -1,6 +1,7 @@
 // A set of atoms 0 to 255, in four words of 64 bits: atom a is bit a % 64 of word a / 64.
 // Above this file nobody sees a word, only membership (`has`) and the rising list of members.
 ghost use Rattle.std.specs.Prelude.{◌≡◌, ℕ, ◌≤◌, true, false, not, ◌&&◌, ◌||◌, ◌++◌, length, drop, Decides, MatchOption, ◌==◌, nat_lt};
+ghost use Rattle.std.specs.Iterator.{YieldsFirst, item_count};
 ghost use Rattle.domain.specs.Atoms.{has, members, none, with_atom, without_atom, unite, without, common, limited, within, NoneFrom, FirstFrom};
 ghost use Rattle.domain.specs.Model.{Rising, among};
 
@@ -50,21 +51,21 @@ impl AtomSet {
         ensures value { result ≡ has self.now number }
         ensures listed { result ≡ among (members self.now) number }
     {
-        number < 256 && self.contains(number as u8)
+        u8::try_from(number).is_ok_and(|atom| self.contains(atom))
     }
 
     pub fn insert(&mut self, atom: u8)
         ensures after { self.new ≡ with_atom self.old atom }
         ensures membership { (a : ℕ) → has self.new a ≡ (has self.old a || a == atom) }
     {
-        words::set_bit(&mut self.words, atom);
+        words::change(&mut self.words, atom, |word, bit| word | bit);
     }
 
     pub fn remove(&mut self, atom: u8)
         ensures after { self.new ≡ without_atom self.old atom }
         ensures membership { (a : ℕ) → has self.new a ≡ (has self.old a && not (a == atom)) }
     {
-        words::clear_bit(&mut self.words, atom);
+        words::change(&mut self.words, atom, |word, bit| word & !bit);
     }
 
     pub fn union(&self, other: &AtomSet) -> AtomSet
@@ -72,7 +73,7 @@ impl AtomSet {
         ensures membership { (a : ℕ) → has result a ≡ (has self.now a || has other.now a) }
     {
         AtomSet {
-            words: words::or(&self.words, &other.words),
+            words: words::zipped(&self.words, &other.words, |a, b| a | b),
         }
     }
 
@@ -81,7 +82,7 @@ impl AtomSet {
         ensures membership { (a : ℕ) → has result a ≡ (has self.now a && not (has other.now a)) }
     {
         AtomSet {
-            words: words::and_not(&self.words, &other.words),
+            words: words::zipped(&self.words, &other.words, |a, b| a & !b),
         }
     }
 
@@ -90,7 +91,7 @@ impl AtomSet {
         ensures membership { (a : ℕ) → has result a ≡ (has self.now a && has other.now a) }
     {
         AtomSet {
-            words: words::and(&self.words, &other.words),
+            words: words::zipped(&self.words, &other.words, |a, b| a & b),
         }
     }
 
@@ -107,14 +108,14 @@ impl AtomSet {
     pub fn is_empty(&self) -> bool
         ensures { Decides result ((a : ℕ) → has self.now a ≡ false) }
     {
-        words::overlay(&self.words) == 0
+        self.first().is_none()
     }
 
     pub fn is_subset(&self, other: &AtomSet) -> bool
         ensures value { result ≡ within self.now other.now }
         ensures membership { Decides result ((a : ℕ) → has self.now a ≡ true → has other.now a ≡ true) }
     {
-        words::excess(&self.words, &other.words) == 0
+        self.difference(other).is_empty()
     }
 
     // How many members there are.
@@ -125,20 +126,26 @@ impl AtomSet {
         words::count(&self.words)
     }
 
+    // The lowest member.
+    fn first(&self) -> Option<u8>
+        ensures { MatchOption result (NoneFrom self.now 0) (FirstFrom self.now 0) }
+    {
+        let place = words::first_set(&self.words)?;
+        Some((64 * place) as u8 + self.words[place].trailing_zeros() as u8)
+    }
+
     // The lowest member at or past `from`.
     pub fn next_from(&self, from: usize) -> Option<u8>
         ensures { MatchOption result (NoneFrom self.now from) (FirstFrom self.now from) }
     {
-        let mut at = from;
-        while at < 256 {
-            // the bits of the word from `at` on
-            let rest = self.words[at / 64] >> (at % 64);
-            if rest != 0 {
-                return Some((at + rest.trailing_zeros() as usize) as u8);
-            }
-            at = (at / 64 + 1) * 64;
-        }
-        None
+        self.difference(&self.below(from)).first()
+    }
+
+    // The members, rising.
+    fn iter(&self) -> Members
+        ensures { result.rest ≡ self.now }
+    {
+        Members { rest: *self }
     }
 
     // Writes the members, rising, from the list's beginning, and tells how many they are.
@@ -148,12 +155,30 @@ impl AtomSet {
         ensures rising { Rising (members self.now) }
     {
         let mut count = 0;
-        let mut from = 0;
-        while let Some(atom) = self.next_from(from) {
-            list[count] = atom as u16;
+        for atom in self.iter() {
+            list[count] = u16::from(atom);
             count += 1;
-            from = atom as usize + 1;
         }
         count
+    }
+}
+
+// The members of a set that are still to come, from the lowest up.
+#[derive(Clone, Copy)]
+struct Members {
+    rest: AtomSet,
+}
+
+impl Iterator for Members {
+    type Item = u8;
+
+    ghost next_gives = { YieldsFirst (λ s. members s.rest) };
+
+    ghost remaining = { item_count (λ s. members s.rest) };
+
+    fn next(&mut self) -> Option<u8> {
+        let atom = self.rest.first()?;
+        self.rest.remove(atom);
+        Some(atom)
     }
 }

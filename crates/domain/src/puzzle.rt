@@ -11,9 +11,6 @@ pub mod problem;
 // Atom 9 * piece + cell is true when the piece is in the cell.
 const ATOMS: usize = 81;
 
-// The gap goes up, down, left or right.
-const ACTIONS: usize = 4;
-
 // No goal lists more atoms.
 const GOAL_LIMIT: usize = 9;
 
@@ -33,6 +30,14 @@ enum Direction {
     Left,
     Right,
 }
+
+// Action i moves the gap the way that stands at place i.
+const DIRECTIONS: [Direction; 4] = [
+    Direction::Up,
+    Direction::Down,
+    Direction::Left,
+    Direction::Right,
+];
 
 // From a start to a board in which every goal atom is true.
 #[derive(Clone, Copy)]

@@ -1,4 +1,6 @@
 // STRIPS problems over a table of actions that the caller lends.
+ghost use Rattle.std.specs.Prelude.{◌≤◌, length};
+
 use crate::atoms::AtomSet;
 
 pub mod problem;
@@ -11,12 +13,14 @@ pub struct Action {
     pub deletions: AtomSet,
 }
 
-// A problem over a lent table, by the number of its highest atom. Entries of the table past the limit of 1,024 are no
-// actions; `Strips::new` makes none that has such entries, or that names an atom past the highest.
+// A problem over a lent table.
 #[derive(Clone, Copy)]
 pub struct Strips<'a> {
-    highest: u8,
+    atoms: usize,
     start: AtomSet,
     goal: AtomSet,
     table: &'a [Action],
+    ghost some: { 1 ≤ atoms },
+    ghost few: { atoms ≤ 256 },
+    ghost short: { length table.now ≤ 1024 },
 }

@@ -1,25 +1,26 @@
 // Four words of 64 bits as one row of 256: bit a is bit a % 64 of word a / 64.
-ghost use Rattle.std.specs.Prelude.{◌≡◌, ◌+◌, ◌/◌, ◌%◌, ◌^◌, ◌≤◌, bit_and, bit_or, count_ones, slice_index, slice_set};
-ghost use Rattle.domain.specs.Words.{Short, bit, zipped, lowest, lacking, overlaid, total};
+ghost use Rattle.std.specs.Prelude.{◌≡◌, ℕ, ◌/◌, ◌%◌, ◌^◌, ◌<◌, ◌≤◌, ◌==◌, not, length, IfSome, position, slice_index, slice_set};
+ghost use Rattle.domain.specs.Words.{Short, bit, lowest, total};
 
-pub fn or(a: &[u64; 4], b: &[u64; 4]) -> [u64; 4]
-    ensures { result ≡ zipped bit_or a.now b.now }
-{
-    [a[0] | b[0], a[1] | b[1], a[2] | b[2], a[3] | b[3]]
-}
+use std::array;
 
-pub fn and(a: &[u64; 4], b: &[u64; 4]) -> [u64; 4]
-    ensures { result ≡ zipped bit_and a.now b.now }
-{
-    [a[0] & b[0], a[1] & b[1], a[2] & b[2], a[3] & b[3]]
-}
-
-// The bits of `a` that `b` lacks.
-pub fn and_not(a: &[u64; 4], b: &[u64; 4]) -> [u64; 4]
-    ensures value { result ≡ zipped lacking a.now b.now }
+// The row whose words are `f` of the words of two rows.
+pub fn zipped<F: Fn(u64, u64) -> u64>(a: &[u64; 4], b: &[u64; 4], f: F) -> [u64; 4]
+    requires { F.IsAlwaysCallable f }
+    ensures long { length result ≡ 4 }
+    ensures each { (i : ℕ) → i < 4 → F.post f (slice_index a.now i) (slice_index b.now i) (slice_index result i) }
     ensures short { Short b.now }
 {
-    [a[0] & !b[0], a[1] & !b[1], a[2] & !b[2], a[3] & !b[3]]
+    array::from_fn(|i| f(a[i], b[i]))
+}
+
+// Changes the word of a bit to `f` of it and of that bit alone.
+pub fn change<F: Fn(u64, u64) -> u64>(row: &mut [u64; 4], at: u8, f: F)
+    requires { F.IsAlwaysCallable f }
+    ensures { (w : ℕ) × F.post f (slice_index row.old (at / 64)) (2 ^ (at % 64)) w × (row.new ≡ slice_set row.old (at / 64) w) }
+{
+    let word = &mut row[at as usize / 64];
+    *word = f(*word, 1 << (at % 64));
 }
 
 // The lowest `count` bits of a word.
@@ -37,12 +38,7 @@ fn low_bits(word: u64, count: usize) -> u64
 pub fn low(row: &[u64; 4], bound: usize) -> [u64; 4]
     ensures { result ≡ lowest bound row.now }
 {
-    [
-        low_bits(row[0], bound),
-        low_bits(row[1], bound.saturating_sub(64)),
-        low_bits(row[2], bound.saturating_sub(128)),
-        low_bits(row[3], bound.saturating_sub(192)),
-    ]
+    array::from_fn(|i| low_bits(row[i], bound.saturating_sub(64 * i)))
 }
 
 pub fn is_set(row: &[u64; 4], at: u8) -> bool
@@ -51,39 +47,12 @@ pub fn is_set(row: &[u64; 4], at: u8) -> bool
     (row[at as usize / 64] >> (at % 64)) % 2 == 1
 }
 
-pub fn set_bit(row: &mut [u64; 4], at: u8)
-    ensures { row.new ≡ slice_set row.old (at / 64) (bit_or (slice_index row.old (at / 64)) (2 ^ (at % 64))) }
+// The first word with a set bit.
+pub fn first_set(row: &[u64; 4]) -> Option<usize>
+    ensures value { result ≡ position (λ w. not (w == 0)) row.now }
+    ensures inside { IfSome result (λ i. i < 4) }
 {
-    row[at as usize / 64] |= 1 << (at % 64);
-}
-
-pub fn clear_bit(row: &mut [u64; 4], at: u8)
-    ensures { row.new ≡ slice_set row.old (at / 64) (lacking (slice_index row.old (at / 64)) (2 ^ (at % 64))) }
-{
-    row[at as usize / 64] &= !(1 << (at % 64));
-}
-
-// The four words laid over each other.
-pub fn overlay(row: &[u64; 4]) -> u64
-    ensures value { result ≡ overlaid row.now }
-    ensures short { Short row.now }
-{
-    row[0] | row[1] | row[2] | row[3]
-}
-
-// The bits of `a` that `b` lacks, laid over each other.
-pub fn excess(a: &[u64; 4], b: &[u64; 4]) -> u64
-    ensures value { result ≡ overlaid (zipped lacking a.now b.now) }
-    ensures short { (Short b.now) × (Short (zipped lacking a.now b.now)) }
-{
-    overlay(&and_not(a, b))
-}
-
-fn ones_in(word: u64) -> usize
-    ensures value { result ≡ count_ones word }
-    ensures small { result ≤ 64 }
-{
-    word.count_ones() as usize
+    row.iter().position(|word| *word != 0)
 }
 
 // How many bits are set.
@@ -92,5 +61,5 @@ pub fn count(row: &[u64; 4]) -> usize
     ensures small { result ≤ 256 }
     ensures short { Short row.now }
 {
-    ones_in(row[0]) + ones_in(row[1]) + ones_in(row[2]) + ones_in(row[3])
+    row.iter().map(|word| word.count_ones() as usize).sum()
 }

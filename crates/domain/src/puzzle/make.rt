@@ -1,8 +1,9 @@
 // How boards and puzzles are made.
-ghost use Rattle.std.specs.Prelude.{◌≡◌, ◌<◌, take, Some, None, MatchResult, nat_lt};
-ghost use Rattle.domain.specs.Boards.{fresh, first_stale, board_fault, BoardMade};
+ghost use Rattle.std.specs.Prelude.{◌≡◌, ◌<◌, not, take, position, nat_lt};
+ghost use Rattle.domain.specs.Atoms.{upto};
+ghost use Rattle.domain.specs.Boards.{fresh, BoardMade};
 ghost use Rattle.domain.specs.Model.{among};
-ghost use Rattle.domain.specs.PuzzleMade.{first_past, PuzzleMade};
+ghost use Rattle.domain.specs.PuzzleMade.{PuzzleMade};
 ghost use Rattle.domain.specs.Square.{piece_at};
 
 use crate::atoms::AtomSet;
@@ -14,7 +15,7 @@ fn repeats(pieces: &[u8; 9], cell: usize) -> bool
     requires { cell < 9 }
     ensures { result ≡ among (take cell pieces.now) (piece_at pieces.now cell) }
 {
-    pieces[0..cell].contains(&pieces[cell])
+    pieces[..cell].contains(&pieces[cell])
 }
 
 // Whether the piece of a cell is one of 0 to 8 and stands in no lower cell.
@@ -25,27 +26,11 @@ fn is_fresh(pieces: &[u8; 9], cell: usize) -> bool
     pieces[cell] < 9 && !repeats(pieces, cell)
 }
 
-// The first cell whose piece is past 8 or stands in a lower cell too; 9 where there is none.
-fn first_stale(pieces: &[u8; 9]) -> usize
-    ensures { result ≡ first_stale pieces.now }
+// The first cell whose piece is past 8 or stands in a lower cell too.
+fn first_stale(pieces: &[u8; 9]) -> Option<usize>
+    ensures { result ≡ position (λ c. not (fresh pieces.now c)) (upto 9) }
 {
-    for cell in 0..9 {
-        if !is_fresh(pieces, cell) {
-            return cell;
-        }
-    }
-    9
-}
-
-// What is wrong with nine pieces, if anything is.
-fn check_pieces(pieces: &[u8; 9]) -> Result<(), Refusal>
-    ensures { MatchResult result (λ _. board_fault pieces.now ≡ None) (λ e. board_fault pieces.now ≡ Some e) }
-{
-    let stale = first_stale(pieces);
-    if stale < 9 {
-        return Err(Refusal::Range { place: stale });
-    }
-    Ok(())
+    (0..9).position(|cell| !is_fresh(pieces, cell))
 }
 
 fn is_atom(number: u8) -> bool
@@ -54,16 +39,11 @@ fn is_atom(number: u8) -> bool
     (number as usize) < ATOMS
 }
 
-// The first listed atom past 80; where there is none, how many are listed.
-fn first_past(goal: &[u8]) -> usize
-    ensures { result ≡ first_past goal.now }
+// The first listed atom past 80.
+fn first_past(goal: &[u8]) -> Option<usize>
+    ensures { result ≡ position (λ a. not (nat_lt a 81)) goal.now }
 {
-    for (i, atom) in goal.iter().enumerate() {
-        if !is_atom(*atom) {
-            return i;
-        }
-    }
-    goal.len()
+    goal.iter().position(|atom| !is_atom(*atom))
 }
 
 impl Board {
@@ -71,10 +51,10 @@ impl Board {
     pub fn new(pieces: [u8; 9]) -> Result<Board, Refusal>
         ensures { BoardMade pieces result }
     {
-        match check_pieces(&pieces) {
-            Ok(()) => Ok(Board { cells: pieces }),
-            Err(refusal) => Err(refusal),
+        if let Some(place) = first_stale(&pieces) {
+            return Err(Refusal::Range { place });
         }
+        Ok(Board { cells: pieces })
     }
 }
 
@@ -86,9 +66,8 @@ impl Puzzle {
         if goal.len() > GOAL_LIMIT {
             return Err(Refusal::Limit { place: GOAL_LIMIT });
         }
-        let past = first_past(goal);
-        if past < goal.len() {
-            return Err(Refusal::Range { place: past });
+        if let Some(place) = first_past(goal) {
+            return Err(Refusal::Range { place });
         }
         Ok(Puzzle {
             start,

@@ -1,22 +1,35 @@
 // How the gap moves: from its cell to a neighbour in the square.
-ghost use Rattle.std.specs.Prelude.{◌≡◌, ◌<◌};
-ghost use Rattle.domain.specs.Moves.{direction_of, opposite_of, neighbour, destination, traded};
+ghost use Rattle.std.specs.Prelude.{◌≡◌, ◌<◌, ◌==◌, position};
+ghost use Rattle.domain.specs.Moves.{direction_of, action_of, turned, opposite_of, neighbour, destination, traded};
 ghost use Rattle.domain.specs.Puzzle.{after, Undoes};
 ghost use Rattle.domain.specs.Square.{gap};
 
-use crate::puzzle::{Board, Direction, Puzzle};
+use crate::puzzle::{Board, DIRECTIONS, Direction, Puzzle};
 
 impl Direction {
     // Which way an action moves the gap; a number past 3 is no action.
     fn of(action: usize) -> Option<Direction>
         ensures { result ≡ direction_of action }
     {
-        match action {
-            0 => Some(Direction::Up),
-            1 => Some(Direction::Down),
-            2 => Some(Direction::Left),
-            3 => Some(Direction::Right),
-            _ => None,
+        DIRECTIONS.get(action).copied()
+    }
+
+    // The action that moves the gap this way.
+    fn action(self) -> usize
+        ensures { result ≡ action_of self }
+    {
+        self as usize
+    }
+
+    // Up for down, left for right, and back.
+    fn opposite(self) -> Direction
+        ensures { result ≡ turned self }
+    {
+        match self {
+            Direction::Up => Direction::Down,
+            Direction::Down => Direction::Up,
+            Direction::Left => Direction::Right,
+            Direction::Right => Direction::Left,
         }
     }
 
@@ -36,27 +49,26 @@ impl Direction {
 }
 
 impl Board {
+    // The first cell with a piece.
+    fn cell_of(&self, piece: u8) -> Option<usize>
+        ensures { result ≡ position (λ x. x == piece) self.now.cells }
+    {
+        self.cells.iter().position(|x| *x == piece)
+    }
+
     // The cell of the gap.
     fn gap(&self) -> usize
         ensures value { result ≡ gap self.now.cells }
         ensures inside { result < 9 }
     {
-        for (cell, piece) in self.cells.iter().enumerate() {
-            if *piece == 0 {
-                return cell;
-            }
-        }
-        9
+        self.cell_of(0).unwrap()
     }
 
     // Where the gap goes by an action, if it moves.
     pub(super) fn destination(&self, action: usize) -> Option<usize>
         ensures { result ≡ destination (gap self.now.cells) action }
     {
-        match Direction::of(action) {
-            Some(direction) => direction.neighbour(self.gap()),
-            None => None,
-        }
+        Direction::of(action)?.neighbour(self.gap())
     }
 
     // The cells after the gap has changed places with the piece of a cell.
@@ -82,25 +94,12 @@ impl Board {
     }
 }
 
-// Up for down, left for right, and back; a number past 3 is no action, and stays.
-fn turned(action: usize) -> usize
-    ensures { result ≡ opposite_of action }
-{
-    match action {
-        0 => 1,
-        1 => 0,
-        2 => 3,
-        3 => 2,
-        _ => action,
-    }
-}
-
 impl Puzzle {
-    // The action that takes back another.
+    // The action that takes back another: up for down, left for right. A number past 3 is no action, and stays.
     pub fn opposite(action: usize) -> usize
         ensures value { result ≡ opposite_of action }
         ensures back { Undoes action result }
     {
-        turned(action)
+        Direction::of(action).map_or(action, |direction| direction.opposite().action())
     }
 }

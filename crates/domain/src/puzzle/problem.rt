@@ -7,7 +7,7 @@ ghost use Rattle.domain.specs.Square.{stands};
 
 use crate::atoms::AtomSet;
 use crate::model::StateModel;
-use crate::puzzle::{ACTIONS, ATOMS, Board, Puzzle};
+use crate::puzzle::{ATOMS, Board, DIRECTIONS, Puzzle};
 
 // The atom that a piece is in a cell.
 fn atom_of(piece: u8, cell: usize) -> u8
@@ -50,7 +50,7 @@ impl StateModel for Puzzle {
     }
 
     fn actions(&self) -> usize {
-        ACTIONS
+        DIRECTIONS.len()
     }
 
     fn start(&self) -> Board {

@@ -1,9 +1,9 @@
 // A STRIPS problem as a state model, and its maker.
-ghost use Rattle.std.specs.Prelude.{◌≡◌, ◌-◌, ◌<◌, ◌≤◌, length};
+ghost use Rattle.std.specs.Prelude.{◌≡◌, not, position};
 ghost use Rattle.domain.specs.Atoms.{within, limited};
-ghost use Rattle.domain.specs.Strips.{atom_count, problem_by, action_at, state_after};
-ghost use Rattle.domain.specs.StripsLaws.{problem_by_lawful};
-ghost use Rattle.domain.specs.Operators.{fits, action_fits, first_unfit};
+ghost use Rattle.domain.specs.Strips.{problem, state_after};
+ghost use Rattle.domain.specs.StripsLaws.{problem_lawful};
+ghost use Rattle.domain.specs.Operators.{fits, action_fits};
 ghost use Rattle.domain.specs.Fault.{StripsChecked};
 ghost use Rattle.domain.specs.Made.{StripsMade};
 
@@ -28,16 +28,11 @@ fn names_below(action: &Action, atoms: usize) -> bool
         && is_below(&action.deletions, atoms)
 }
 
-// The number of the lowest action that names an atom at or past the count, or the number of actions.
-fn lowest_unfit(table: &[Action], atoms: usize) -> usize
-    ensures { result ≡ first_unfit atoms table.now }
+// The number of the lowest action that names an atom at or past the count.
+fn lowest_unfit(table: &[Action], atoms: usize) -> Option<usize>
+    ensures { result ≡ position (λ act. not (action_fits atoms act)) table.now }
 {
-    for (i, action) in table.iter().enumerate() {
-        if !names_below(action, atoms) {
-            return i;
-        }
-    }
-    table.len()
+    table.iter().position(|action| !names_below(action, atoms))
 }
 
 // What is wrong with a problem, if anything is: a count of 0 or past its limit, too many actions, or an atom past the count.
@@ -56,9 +51,8 @@ fn check(atoms: usize, start: &AtomSet, goal: &AtomSet, table: &[Action]) -> Res
     if !is_below(start, atoms) || !is_below(goal, atoms) {
         return Err(Refusal::Range { place: 0 });
     }
-    let unfit = lowest_unfit(table, atoms);
-    if unfit < table.len() {
-        return Err(Refusal::Range { place: unfit });
+    if let Some(place) = lowest_unfit(table, atoms) {
+        return Err(Refusal::Range { place });
     }
     Ok(())
 }
@@ -73,33 +67,11 @@ impl Action {
 }
 
 impl<'a> Strips<'a> {
-    // The problem, of which nothing is wrong.
-    fn hold(atoms: usize, start: AtomSet, goal: AtomSet, table: &'a [Action]) -> Strips<'a>
-        requires some { 1 ≤ atoms }
-        requires few { atoms ≤ 256 }
-        ensures { problem_by result.highest result.start result.goal result.table.now ≡ problem_by (atoms - 1) start goal table.now }
-    {
-        Strips {
-            highest: (atoms - 1) as u8,
-            start,
-            goal,
-            table,
-        }
-    }
-
     // Whether all of some atoms are true in a state; one past the highest is not.
     fn all_true(&self, needed: &AtomSet, state: &AtomSet) -> bool
-        ensures { result ≡ within needed.now (limited state.now (atom_count self.now.highest)) }
+        ensures { result ≡ within needed.now (limited state.now self.now.atoms) }
     {
-        needed.is_subset(&state.below(self.atoms()))
-    }
-
-    // Whether the preconditions of an action of the table are true in a state.
-    fn ready(&self, action: usize, state: &AtomSet) -> bool
-        requires { action < length self.now.table.now }
-        ensures { result ≡ within (action_at self.now.table.now action).preconditions (limited state.now (atom_count self.now.highest)) }
-    {
-        self.all_true(&self.table[action].preconditions, state)
+        needed.is_subset(&state.below(self.atoms))
     }
 
     // The problem, or what is wrong with it.
@@ -111,26 +83,29 @@ impl<'a> Strips<'a> {
     ) -> Result<Strips<'a>, Refusal>
         ensures { StripsMade atoms start goal table.now result }
     {
-        match check(atoms, &start, &goal, table) {
-            Ok(()) => Ok(Strips::hold(atoms, start, goal, table)),
-            Err(refusal) => Err(refusal),
-        }
+        check(atoms, &start, &goal, table)?;
+        Ok(Strips {
+            atoms,
+            start,
+            goal,
+            table,
+        })
     }
 }
 
 impl<'a> StateModel for Strips<'a> {
     type State = AtomSet;
 
-    ghost meaning = { λ m. problem_by m.highest m.start m.goal m.table.now };
+    ghost meaning = { λ m. problem m.atoms m.start m.goal m.table.now };
 
-    ghost lawful = { λ m. problem_by_lawful m.highest m.start m.goal m.table.now };
+    ghost lawful = { λ m. problem_lawful m.atoms m.start m.goal m.table.now m.some m.few m.short };
 
     fn atoms(&self) -> usize {
-        self.highest as usize + 1
+        self.atoms
     }
 
     fn actions(&self) -> usize {
-        self.table.len().min(MAX_ACTIONS)
+        self.table.len()
     }
 
     fn start(&self) -> AtomSet {
@@ -138,7 +113,7 @@ impl<'a> StateModel for Strips<'a> {
     }
 
     fn truths(&self, state: AtomSet) -> AtomSet {
-        state.below(self.atoms())
+        state.below(self.atoms)
     }
 
     fn is_target(&self, state: AtomSet) -> bool {
@@ -146,7 +121,7 @@ impl<'a> StateModel for Strips<'a> {
     }
 
     fn applies(&self, state: AtomSet, action: usize) -> bool {
-        action < self.actions() && self.ready(action, &state)
+        action < self.actions() && self.all_true(&self.table[action].preconditions, &state)
     }
 
     fn successor(&self, state: AtomSet, action: usize) -> AtomSet {

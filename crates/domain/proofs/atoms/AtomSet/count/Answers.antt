@@ -3,10 +3,7 @@ use Rattle.domain.proofs.Sets.{sized_from_short}
 use Rattle.domain.proofs.Tally.{length_members}
 use Rattle.domain.proofs.atoms.AtomSet.count.Goals as goal
 
-pub returns : goal.returns
-returns c =
+pub returns-clause-value : goal.returns-clause-value
+returns-clause-value c =
     let s = c.args.self.now in
-    record {
-      value = c.count.ensures.value ∙ sym (length_members s (sized_from_short s c.count.ensures.short));
-      small = c.count.ensures.small;
-    }
+    c.count.ensures.value ∙ sym (length_members s (sized_from_short s c.count.ensures.short))

@@ -1,10 +1,16 @@
-use Rattle.std.proofs.Common.{◌∙◌, rules}
+use Rattle.std.proofs.Common.{ℕ, List, ap, ◌∙◌, rules}
+use lib.Bits.{bit_and}
 use Rattle.domain.specs.Atoms.{common}
-use Rattle.domain.proofs.Sets.{has_row, has_common}
+use Rattle.domain.proofs.Sets.{wordwise_is, has_row, has_common}
 use Rattle.domain.proofs.atoms.AtomSet.intersection.Goals as goal
 
 pub returns : goal.returns
 returns c =
     let s = c.args.self.now in
     let t = c.args.other.now in
-    record { value = search rules; membership = λ a. has_row c.and.result (common s t) c.and.ensures a ∙ has_common s t a }
+    let told = c.zipped.ensures in
+    let same = wordwise_is bit_and s t c.zipped.result told.long (λ i h. let p = told.each i h in search rules) in
+    record {
+      value = ap (λ (row : List ℕ). record { words = row }) same;
+      membership = λ a. has_row c.zipped.result (common s t) same a ∙ has_common s t a;
+    }

@@ -1,38 +1,31 @@
-use Rattle.std.proofs.Common.{◌≡◌, ◌<◌, ◌≤◌, not, eqb, length, arith}
-use Rattle.std.proofs.lemmas.List.Sums.{prefix_len-drop_yes, prefix_len-drop_no, prefix_len-drop_all}
-use Rattle.std.proofs.lemmas.Bool.{eq-eqb, ne_eqb, not_from_true, not_from_false}
+use Rattle.std.proofs.Common.{◌≡◌, ltb, eqb, length, Some, None, ◌∙◌, arith, rules}
+use Rattle.std.specs.Prelude.{position}
+use Rattle.std.proofs.lemmas.Bool.{cond-true, lt-ltb}
 use Rattle.domain.specs.Slides.{gap_below}
 use Rattle.domain.specs.Square.{gap}
+use Rattle.domain.specs.declared.puzzle.Board.{Board}
 use Rattle.domain.proofs.puzzle.Board.gap.Goals as goal
 
-pub returns-then-piece-eq0 : goal.returns-then-piece-eq0
+-- the first piece 0 stands in the cell of the gap, and there is one
+gap_found : (s : Board) → position (λ x. eqb x 0) s.cells ≡ Some (gap s.cells)
 unfolding gap
-returns-then-piece-eq0 c =
-    let s = c.args.self.now in
-    let inside : c.loop-cell.cell < length s.cells = omega arith in
-    record {
-      value = omega (
-        arith,
-        c.loop-cell.invariant,
-        prefix_len-drop_no (λ x. not (eqb x 0)) s.cells c.loop-cell.cell 0 inside (not_from_true _ (eq-eqb _ 0 c.if-piece-eq0.true)),
-      );
-      inside = omega arith;
-    }
+gap_found s =
+    cond-true (ltb (gap s.cells) (length s.cells)) (Some (gap s.cells)) None
+    (lt-ltb (gap s.cells) (length s.cells) (omega (arith, s.nine, gap_below s.cells s.nine s.once)))
 
-pub loop-cell-preserved : goal.loop-cell-preserved
-loop-cell-preserved c =
-    let inside : c.loop-cell.cell < length c.args.self.now.cells = omega arith in
-    omega (
-      arith,
-      c.loop-cell.invariant,
-      prefix_len-drop_yes (λ x. not (eqb x 0)) c.args.self.now.cells c.loop-cell.cell 0
-          inside (not_from_false _ (ne_eqb _ 0 (λ e. omega arith))),
-    )
+pub unwrap-requires : goal.unwrap-requires
+unwrap-requires c =
+    let found = c.cell_of.ensures ∙ gap_found c.args.self.now in
+    search rules
 
-pub returns : goal.returns
-unfolding gap
-returns c =
+pub returns-clause-value : goal.returns-clause-value
+returns-clause-value c =
+    let found = c.cell_of.ensures ∙ gap_found c.args.self.now in
+    search rules
+
+pub returns-clause-inside : goal.returns-clause-inside
+returns-clause-inside c =
     let s = c.args.self.now in
-    let past : length s.cells ≤ c.loop-cell.cell = omega arith in
-    let all : 9 ≡ gap s.cells = omega (arith, c.loop-cell.invariant, prefix_len-drop_all (λ x. not (eqb x 0)) s.cells c.loop-cell.cell past) in
-    absurd (omega (arith, gap_below s.cells s.nine s.once))
+    let found = c.cell_of.ensures ∙ gap_found s in
+    let value : c.unwrap.result ≡ gap s.cells = search rules in
+    omega (arith, gap_below s.cells s.nine s.once)

@@ -1,4 +1,4 @@
-use Rattle.std.proofs.Common.{◌≡◌, ℕ, ◌-◌, eqb, take, ap, ◌∙◌, arith}
+use Rattle.std.proofs.Common.{eqb, take}
 use Rattle.std.proofs.lemmas.List.Elements.{contains_decides}
 use Rattle.std.proofs.lemmas.Bool.Decides.{same_from_decides, Decides-eqb}
 use Rattle.domain.specs.Model.{among}
@@ -11,8 +11,6 @@ returns c =
     let cells = c.args.pieces.now in
     let i = c.args.cell in
     let x = piece_at cells i in
-    let front = take (i - 0) cells in
-    let r = c.contains.result in
-    let whole : i - 0 ≡ i = omega arith in
-    let same : r ≡ among front x = same_from_decides r (among front x) (contains_decides eqb Decides-eqb front x r c.contains.ensures.cases) (decides_among front x) in
-    same ∙ ap (λ (n : ℕ). among (take n cells) x) whole
+    let front = take i cells in
+    same_from_decides c.contains.result (among front x) (contains_decides eqb Decides-eqb front x c.contains.result c.contains.ensures.cases)
+    (decides_among front x)

@@ -1,6 +1,0 @@
-use Rattle.std.proofs.Common.{arith}
-use lib.Count.{ones-le}
-use Rattle.domain.proofs.words.ones_in.Goals as goal
-
-pub overflow_cast-result : goal.overflow_cast-result
-overflow_cast-result c = omega (arith, ones-le 64 c.args.word (omega arith))
