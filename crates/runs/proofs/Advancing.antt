@@ -1,5 +1,5 @@
 -- Work keeps what holds of a run and its log: every advance keeps what a search holds. Assumes nothing.
-use Rattle.std.proofs.Common.{◌≡◌, ℕ, ◌<◌, ◌≤◌, Bool, true, false, cond, List, ◌++◌, length, Some, None, Option, sym, refl, ap, ◌∙◌, subst, ap₂, arith}
+use Rattle.std.proofs.Common.{◌≡◌, ℕ, ◌<◌, ◌≤◌, Bool, true, false, cond, List, ◌++◌, length, Some, None, Option, sym, refl, ap, ◌∙◌, subst, ap₂}
 use Rattle.std.specs.List.{AllByRecursion}
 use Rattle.domain.specs.Model.{Rising}
 use Rattle.domain.specs.declared.refusal.Refusal.{Refusal}
@@ -18,8 +18,9 @@ use Rattle.runs.specs.Findings.{search_task, Excluded}
 use Rattle.runs.specs.History.{Watch, Log, drained, length_in, reached, note_work, note_reply, SameStates, SameMarks, work_leaves, work_notes}
 use Rattle.runs.specs.Run.{View}
 use Rattle.runs.specs.declared.claim.Phase.TheVariants.{Working}
+use Rattle.runs.proofs.Beginning.{open_claimed}
 use Rattle.runs.proofs.Replies.{no_refusal}
-use Rattle.runs.proofs.Standing.{fair_search, Hunting, Watching, Standing, current_reached}
+use Rattle.runs.proofs.Standing.{fair_search, Hunting, Standing, hunted, current_reached}
 
 -- without a fault the ticket is of the open search
 ticket_latest : (b : Bool) (rest : Option Refusal) → cond b rest (Some ForeignClaim) ≡ None → b ≡ true
@@ -94,20 +95,22 @@ module _ {S M : Type 0} (keys : M → List ℕ → List ℕ) (total : M → ℕ)
       → Standing keys total below some (work_leaves keys total v l t n nodes marks) (work_notes keys total v l t n nodes marks)
   work_step v l X t n nodes marks states table = go (work_fault v t (length nodes) (length marks)) refl states table
     where
-      working : (o : Option (UnderWay M)) → v.opened ≡ o → claims o v.searches Working t ≡ true → (x : Option (Watch S M)) → l.watch ≡ x
-          → ((w : Watch S M) → l.watch ≡ Some w → nodes ≡ w.nodes) → ((w : Watch S M) → l.watch ≡ Some w → marks ≡ w.marks)
-          → Standing keys total below some (searching v (moved o (worked_open (subgoal v) keys n o nodes marks)))
-          (note_reply x v.problem l (worked_reply v t (worked_open (subgoal v) keys n o nodes marks))
-          (worked_open (subgoal v) keys n o nodes marks).nodes (worked_open (subgoal v) keys n o nodes marks).marks)
-      working None is latest x watched ns ms = let z : ◌≡◌ {A = ℕ} 0 1 = cc in absurd (omega arith)
-      working (Some u) is latest None watched ns ms =
-          absurd (subst (λ o. Watching keys total below some v.problem v.sketch v.current X.lawful o None) is
-          (subst (Watching keys total below some v.problem v.sketch v.current X.lawful v.opened) watched X.watching))
-      working (Some u) is latest (Some w) watched ns ms =
-          worked_on_stands v l X t n u w
-          (subst (λ o. Watching keys total below some v.problem v.sketch v.current X.lawful o (Some w)) is
-          (subst (Watching keys total below some v.problem v.sketch v.current X.lawful v.opened) watched X.watching))
-          nodes marks (ns w watched) (ms w watched)
+      working : (u : UnderWay M) → v.opened ≡ Some u → ((w : Watch S M) → l.watch ≡ Some w → nodes ≡ w.nodes)
+          → ((w : Watch S M) → l.watch ≡ Some w → marks ≡ w.marks)
+          → Standing keys total below some (worked_run v (worked v keys n nodes marks))
+          (note_reply l.watch v.problem l (worked_reply v t (worked v keys n nodes marks)) (worked v keys n nodes marks).nodes (worked v keys n nodes marks).marks)
+      working u is ns ms =
+          let h = hunted keys total below some v l X u is in
+          subst
+          (λ o. Standing keys total below some (searching v (moved o (worked_open (subgoal v) keys n o nodes marks)))
+          (note_reply l.watch v.problem l (worked_reply v t (worked_open (subgoal v) keys n o nodes marks))
+          (worked_open (subgoal v) keys n o nodes marks).nodes (worked_open (subgoal v) keys n o nodes marks).marks))
+          (sym is)
+          (subst
+          (λ x. Standing keys total below some (searching v (Some (moved_on u (worked_on (subgoal v) keys n u nodes marks))))
+          (note_reply x v.problem l (worked_reply v t (worked_on (subgoal v) keys n u nodes marks))
+          (worked_on (subgoal v) keys n u nodes marks).nodes (worked_on (subgoal v) keys n u nodes marks).marks))
+          (sym h.1.0) (worked_on_stands v l X t n u h.0 h.1.1 nodes marks (ns h.0 h.1.0) (ms h.0 h.1.0)))
 
       go : (f : Option Refusal) → work_fault v t (length nodes) (length marks) ≡ f → SameStates l f nodes → SameMarks l f marks
           → Standing keys total below some (unless f v (worked_run v (worked v keys n nodes marks)))
@@ -115,4 +118,5 @@ module _ {S M : Type 0} (keys : M → List ℕ → List ℕ) (total : M → ℕ)
           (unless f nodes (worked v keys n nodes marks).nodes) (unless f marks (worked v keys n nodes marks).marks))
       go (Some e) is ns ms = X
       go None is ns ms =
-          working v.opened refl (ticket_latest (claims v.opened v.searches Working t) _ is) l.watch refl (ns refl) (ms refl)
+          let o = open_claimed v.opened v.searches t Working (ticket_latest (claims v.opened v.searches Working t) _ is) in
+          working o.0 o.1 (ns refl) (ms refl)

@@ -1,5 +1,5 @@
 -- Begin and abandon keep what holds of a run and its log. Assumes nothing.
-use Rattle.std.proofs.Common.{◌≡◌, ℕ, ◌+◌, ◌<◌, ◌≤◌, Bool, true, false, cond, not, ltb, List, ◌∷◌, length, is_some, Some, None, sum, Option, refl, ap, ◌∙◌, subst, ⊎_elim, arith}
+use Rattle.std.proofs.Common.{◌≡◌, ℕ, ◌+◌, ◌<◌, ◌≤◌, Bool, true, false, cond, not, ltb, List, ◌∷◌, length, is_some, Some, None, sum, Option, sym, refl, ap, ◌∙◌, subst, ⊎_elim, arith}
 use Rattle.std.specs.List.{AllByRecursion}
 use Rattle.std.proofs.lemmas.List.Sums.{sum_by-cons}
 use Rattle.std.proofs.lemmas.Bool.{or_from, or_parts, ltb-false, cases_Bool}
@@ -19,7 +19,7 @@ use Rattle.runs.specs.History.{Watch, Log, note_begin, note_end, note_abandon, b
 use Rattle.runs.specs.Run.{View}
 use Rattle.runs.specs.declared.claim.Phase.{Phase}
 use Rattle.runs.proofs.Replies.{passed}
-use Rattle.runs.proofs.Standing.{no_standstill, fair_search, Hunting, Watching, Standing}
+use Rattle.runs.proofs.Standing.{no_standstill, fair_search, Hunting, Standing, hunted}
 
 not_some : {X : Type 0} (o : Option X) → is_some o ≡ false → o ≡ None
 not_some None h = refl
@@ -86,29 +86,26 @@ module _ {S M : Type 0} (keys : M → List ℕ → List ℕ) (total : M → ℕ)
       → Standing keys total below some (abandon_leaves keys total v l kind number) (abandon_notes keys total v l kind number)
   abandon_step v l X kind number = go (claims v.opened v.searches kind number) refl
     where
-      closing : (u : UnderWay M) → v.opened ≡ Some u → (x : Option (Watch S M)) → l.watch ≡ x → Standing keys total below some (closed_run v) (note_end x l)
-      closing u is None none =
-          absurd (subst (λ o. Watching keys total below some v.problem v.sketch v.current X.lawful o None) is
-          (subst (Watching keys total below some v.problem v.sketch v.current X.lawful v.opened) none X.watching))
-      closing u is (Some w) watched =
-          let H : Hunting keys total below some v.problem v.sketch v.current X.lawful u w =
-          subst (λ o. Watching keys total below some v.problem v.sketch v.current X.lawful o (Some w)) is
-          (subst (Watching keys total below some v.problem v.sketch v.current X.lawful v.opened) watched X.watching) in
-          record {
-            lawful = X.lawful;
-            watching = tt;
-            linked = X.linked;
-            last = X.last;
-            exclusion = X.exclusion;
-            shortest = X.shortest;
-            kept = X.kept;
-            leads = X.leads;
-            long = X.long;
-            plan = X.plan;
-            effort = effort_more v.effort (spent v.opened) w.expanded l.ended X.effort (ap spent is ∙ H.expanded);
-          }
+      closing : (u : UnderWay M) → v.opened ≡ Some u → (w : Watch S M) → Hunting keys total below some v.problem v.sketch v.current X.lawful u w
+          → Standing keys total below some (closed_run v) (note_end (Some w) l)
+      closing u is w H = record {
+        lawful = X.lawful;
+        watching = tt;
+        linked = X.linked;
+        last = X.last;
+        exclusion = X.exclusion;
+        shortest = X.shortest;
+        kept = X.kept;
+        leads = X.leads;
+        long = X.long;
+        plan = X.plan;
+        effort = effort_more v.effort (spent v.opened) w.expanded l.ended X.effort (ap spent is ∙ H.expanded);
+      }
 
       go : (b : Bool) → claims v.opened v.searches kind number ≡ b
           → Standing keys total below some (unless (cond b None (Some ForeignClaim)) v (closed_run v)) (note_abandon l (told (cond b None (Some ForeignClaim)) number))
-      go true latest = let o = open_claimed v.opened v.searches number kind latest in closing o.0 o.1 l.watch refl
+      go true latest =
+          let o = open_claimed v.opened v.searches number kind latest in
+          let h = hunted keys total below some v l X o.0 o.1 in
+          subst (λ x. Standing keys total below some (closed_run v) (note_end x l)) (sym h.1.0) (closing o.0 o.1 h.0 h.1.1)
       go false foreign = X

@@ -72,22 +72,29 @@ module _ {S M : Type 0} (keys : M → List ℕ → List ℕ) (total : M → ℕ)
   pub current_reached : (v : View S M) (l : Log S M) → Standing v l → v.current ≡ reached v.problem l
   current_reached v l X = leads_end v.problem (steps l.segments) v.problem.start v.current X.leads
 
+  -- while a search is open, the observer has noted one, and it stands as noted
+  pub hunted : (v : View S M) (l : Log S M) (X : Standing v l) (u : UnderWay M) → v.opened ≡ Some u
+      → (w : Watch S M) × ((l.watch ≡ Some w) × Hunting v.problem v.sketch v.current X.lawful u w)
+  hunted v l X u is = go l.watch refl (subst (λ o. Watching v.problem v.sketch v.current X.lawful o l.watch) is X.watching)
+    where
+      go : (x : Option (Watch S M)) → l.watch ≡ x → Watching v.problem v.sketch v.current X.lawful (Some u) x
+          → (w : Watch S M) × ((l.watch ≡ Some w) × Hunting v.problem v.sketch v.current X.lawful u w)
+      go None noted W = absurd W
+      go (Some w) noted W = (w, (noted, W))
+
   -- an open search keeps to its keys
-  open_keeps : (P : Meaning S) (k : Sketch) (s : S) (lawful : Lawful P) (o : Option (UnderWay M)) (x : Option (Watch S M)) → Watching P k s lawful o x
-      → (u : UnderWay M) → o ≡ Some u → u.kept ≤ total u.measure
-  open_keeps P k s lawful None x W u is = let z : ◌≡◌ {A = ℕ} 0 1 = cc in absurd (omega arith)
-  open_keeps P k s lawful (Some y) None W u is = absurd W
-  open_keeps P k s lawful (Some y) (Some w) W u is =
-      let same : y ≡ u = cc in
-      subst (λ z. z.kept ≤ total z.measure) same
-      (between_findings (search_task keys total P k s y.measure) (fair_search P k s y.measure lawful) (resumed y w.nodes w.marks) W.between).kept
+  open_keeps : (v : View S M) (l : Log S M) (X : Standing v l) (u : UnderWay M) → v.opened ≡ Some u → u.kept ≤ total u.measure
+  open_keeps v l X u is =
+      let h = hunted v l X u is in
+      (between_findings (search_task keys total v.problem v.sketch v.current u.measure)
+      (fair_search v.problem v.sketch v.current u.measure X.lawful) (resumed u h.0.nodes h.0.marks) h.1.1.between).kept
 
   -- Each start is a subgoal of the one before it by a rule of an accepted sketch, so no two agree in every feature.
   pub found_out : (v : View S M) (l : Log S M) → Standing v l → Findings keys total v l
   found_out v l X = record {
     exclusion = X.exclusion;
     shortest = X.shortest;
-    keeping = open_keeps v.problem v.sketch v.current X.lawful v.opened l.watch X.watching;
+    keeping = open_keeps v l X;
     kept = X.kept;
     distinct = λ i j lt inside same.
         states_apart v.sketch (λ n. v.problem.truths (start_of keys total v.problem v.sketch l.segments n)) j

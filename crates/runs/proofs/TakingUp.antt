@@ -25,7 +25,7 @@ use Rattle.runs.specs.Run.{View}
 use Rattle.runs.specs.declared.claim.Phase.TheVariants.{Met}
 use Rattle.runs.proofs.Adopting.{Adoptable, adoptable, holds_long, read_back}
 use Rattle.runs.proofs.Beginning.{effort_more, open_claimed}
-use Rattle.runs.proofs.Standing.{fair_search, Hunting, Watching, Standing, current_reached}
+use Rattle.runs.proofs.Standing.{fair_search, Hunting, Standing, hunted, current_reached}
 use Rattle.runs.proofs.Ways.{runs_below, leads_append, steps_push}
 
 -- a way that was found is the outcome
@@ -201,18 +201,15 @@ module _ {S M : Type 0} (keys : M → List ℕ → List ℕ) (total : M → ℕ)
       → Standing keys total below some (adopt_leaves keys total v l c nodes plan) (adopt_notes keys total v l c nodes plan)
   adopt_step v l X c nodes plan states = go (adopt_fault v c nodes (length plan)) refl states
     where
-      taking : Adoptable v c nodes (length plan) → (u : UnderWay M) → v.opened ≡ Some u → (x : Option (Watch S M)) → l.watch ≡ x
-          → ((w : Watch S M) → l.watch ≡ Some w → nodes ≡ w.nodes)
+      taking : Adoptable v c nodes (length plan) → (u : UnderWay M) → v.opened ≡ Some u → ((w : Watch S M) → l.watch ≡ Some w → nodes ≡ w.nodes)
           → Standing keys total below some (adopted_run v (way_actions nodes (found_way v.opened)) (way_length (found_way v.opened)))
-          (note_segment x v.problem l (way_length (found_way v.opened)) plan (placed plan v.length (way_actions nodes (found_way v.opened))))
-      taking A u is None watched ns =
-          absurd (subst (λ o. Watching keys total below some v.problem v.sketch v.current X.lawful o None) is
-          (subst (Watching keys total below some v.problem v.sketch v.current X.lawful v.opened) watched X.watching))
-      taking A u is (Some w) watched ns =
-          adopted_stands v l X c u is w
-          (subst (λ o. Watching keys total below some v.problem v.sketch v.current X.lawful o (Some w)) is
-          (subst (Watching keys total below some v.problem v.sketch v.current X.lawful v.opened) watched X.watching))
-          nodes plan (ns w watched) A
+          (note_segment l.watch v.problem l (way_length (found_way v.opened)) plan (placed plan v.length (way_actions nodes (found_way v.opened))))
+      taking A u is ns =
+          let h = hunted keys total below some v l X u is in
+          subst
+          (λ x. Standing keys total below some (adopted_run v (way_actions nodes (found_way v.opened)) (way_length (found_way v.opened)))
+          (note_segment x v.problem l (way_length (found_way v.opened)) plan (placed plan v.length (way_actions nodes (found_way v.opened)))))
+          (sym h.1.0) (adopted_stands v l X c u is h.0 h.1.1 nodes plan (ns h.0 h.1.0) A)
 
       go : (f : Option Refusal) → adopt_fault v c nodes (length plan) ≡ f → SameStates l f nodes
           → Standing keys total below some (unless f v (adopted_run v (way_actions nodes (found_way v.opened)) (way_length (found_way v.opened))))
@@ -222,4 +219,4 @@ module _ {S M : Type 0} (keys : M → List ℕ → List ℕ) (total : M → ℕ)
       go None is ns =
           let A = adoptable v c nodes (length plan) is in
           let o = open_claimed v.opened v.searches c Met A.latest in
-          taking A o.0 o.1 l.watch refl (ns refl)
+          taking A o.0 o.1 (ns refl)

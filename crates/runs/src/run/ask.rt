@@ -40,9 +40,7 @@ impl<D: StateModel, M: Measure + Drop> Run<D, M> {
     pub fn step(&self, plan: &[usize], step: usize) -> Result<usize, Refusal>
         ensures { result ≡ step_reply self.now.length plan.now step }
     {
-        if step >= self.length || step >= plan.len() {
-            return Err(Refusal::NoStep);
-        }
-        Ok(plan[step])
+        let steps = &plan[..plan.len().min(self.length)];
+        steps.get(step).copied().ok_or(Refusal::NoStep)
     }
 }
