@@ -1,15 +1,10 @@
-use Rattle.std.proofs.Common.{◌≡◌, refl, sym, ap, ◌∙◌, subst, arith}
+use Rattle.std.proofs.Common.{◌≡◌, refl, sym, ap, ◌∙◌, subst}
 use Rattle.planner.specs.Search.{task, given, snap, advanced}
 use Rattle.planner.specs.Whole.{at_end}
 use Rattle.planner.proofs.Expanding.{Fair}
 use Rattle.planner.proofs.Findings.{end_within, end_findings}
 use Rattle.planner.proofs.Lawful.{fair}
 use Rattle.planner.proofs.whole.search_to_end.Goals as goal
-
-pub advance-requires-clause-held : goal.advance-requires-clause-held
-advance-requires-clause-held g c =
-    let one : c.begin-progress.result.kept ≡ 1 = ap (λ h. h.kept) c.begin-progress.ensures in
-    omega (arith, c.args.task.now.some)
 
 pub returns : goal.returns
 returns g c =

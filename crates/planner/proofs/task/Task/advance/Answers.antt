@@ -1,23 +1,11 @@
-use Rattle.std.proofs.Common.{◌≡◌, ◌<◌, ◌≤◌, true, not, ltb, is_some, sym, ap, ◌∙◌, subst, arith}
-use Rattle.std.proofs.lemmas.Bool.{and_parts, ltb-true}
+use Rattle.std.proofs.Common.{◌≡◌, ◌<◌, ◌≤◌, true, sym, ap, ◌∙◌, subst, arith}
 use Rattle.planner.specs.Search.{snap, goes_on}
-use Rattle.planner.proofs.Steps.{advanced_first, advanced_ended, advanced_more, advanced_all, expand_next_kept}
+use Rattle.planner.proofs.Steps.{advanced_ended, advanced_more, advanced_all, expand_next_kept}
 use Rattle.planner.proofs.task.Task.advance.Goals as goal
-
-pub loop-init : goal.loop-init
-loop-init g c = (advanced_first _ c.args.budget _, c.requires.held)
 
 pub returns-then-not-goes_on : goal.returns-then-not-goes_on
 returns-then-not-goes_on g c =
     sym (c.loop.invariant.0 ∙ advanced_ended _ _ _ (sym c.goes_on.ensures ∙ c.if-not-goes_on.true))
-
-pub expand-requires : goal.expand-requires
-expand-requires g c =
-    let p = c.loop.progress in
-    let on : goes_on p.met p.expanded p.kept ≡ true = sym c.goes_on.ensures ∙ c.if-not-goes_on.false in
-    let waits : p.expanded < p.kept = ltb-true _ _ (and_parts (not (is_some p.met)) (ltb p.expanded p.kept) on).1 in
-    let few = c.loop.invariant.1 in
-    record { places = omega arith; waiting = omega (arith, few) }
 
 pub loop-preserved : goal.loop-preserved
 loop-preserved g c =

@@ -1,11 +1,6 @@
-use Rattle.std.proofs.Common.{◌<◌, ◌≤◌, sym, ap, ◌∙◌, arith}
-use native.Mathlib.Nat.{sub-zero}
-use Rattle.planner.specs.Search.{tried_from}
+use Rattle.std.proofs.Common.{◌<◌, ◌≤◌, sym, ◌∙◌, arith}
 use Rattle.planner.proofs.Steps.{tries_end, tries_go_on, no_more_tries}
 use Rattle.planner.proofs.task.Task.try_actions.Goals as goal
-
-pub loop-action-init : goal.loop-action-init
-loop-action-init g c = sym (ap (tried_from _ _ _ 0) (sub-zero _))
 
 pub returns-then-is_some : goal.returns-then-is_some
 returns-then-is_some g c =
