@@ -1,8 +1,8 @@
 -- The features of a measure by feature values. Assumes nothing.
-use Rattle.std.specs.Prelude.{List, take}
+use Rattle.std.specs.Prelude.{List}
+use Rattle.sketch.specs.Held.{list_of}
 use Rattle.sketch.specs.declared.feature.Feature.{Feature}
 use Rattle.novelty.specs.declared.values.FeatureValues.{FeatureValues}
 
--- those at the beginning of its array
 abbrev pub features_of : FeatureValues → List Feature
-features_of m = take m.feature_count m.features
+features_of m = list_of m.features

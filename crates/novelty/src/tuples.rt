@@ -48,6 +48,7 @@ fn check(atoms: usize, width: usize) -> Result<(), Refusal>
 impl Tuples {
     ghost use Rattle.novelty.specs.Walk.{Tries};
 
+    #[tactic(auto, using(crate::specs::Ranks::one_to_one))]
     pub fn new(atoms: usize, width: usize) -> Result<Tuples, Refusal>
         ensures answer { elim result [ Ok m ↦ (tuples_fault atoms width ≡ None) × (m.atoms ≡ atoms) × (m.width ≡ width) | Err e ↦ tuples_fault atoms width ≡ Some e ] }
         ensures distinct { OneToOne atoms }

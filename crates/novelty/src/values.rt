@@ -1,19 +1,17 @@
 // The measure by feature values: a set of atoms has one key, made of the values of all features.
-ghost use Rattle.std.specs.Prelude.{◌≡◌, ◌≤◌, length, take};
+ghost use Rattle.std.specs.Prelude.{◌≡◌, ◌≤◌};
+ghost use Rattle.sketch.specs.Held.{list_of};
 ghost use Rattle.novelty.specs.Values.{value_count};
 
 use sketch::feature::Feature;
+use sketch::held::Held;
 
 pub mod measure;
 
-// The features stand at the beginning of their array.
 #[derive(Clone, Copy, Debug)]
 pub struct FeatureValues {
-    features: [Feature; 8],
-    feature_count: usize,
+    features: Held<Feature, 8>,
     keys: usize,
-    ghost few: { feature_count ≤ 8 },
-    ghost held: { length (take feature_count features) ≡ feature_count },
-    ghost counted: { keys ≡ value_count (take feature_count features) },
+    ghost counted: { keys ≡ value_count (list_of features) },
     ghost limit: { keys ≤ 65536 },
 }

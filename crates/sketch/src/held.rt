@@ -7,6 +7,7 @@ use std::alloc::AllocError;
 mod copy;
 
 // At most N items, which stand at the beginning of the array.
+#[derive(Debug)]
 pub struct Held<T, const N: usize> {
     items: [T; N],
     count: usize,

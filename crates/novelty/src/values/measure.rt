@@ -1,7 +1,7 @@
 // How the measure by feature values is made, and what it answers.
-ghost use Rattle.std.specs.Prelude.{◌≡◌, ◌≤◌, length, Some, None, Ok, Err, nat_lt};
+ghost use Rattle.std.specs.Prelude.{◌≡◌, ◌<◌, ◌≤◌, Some, None, Ok, Err, MatchOption};
 ghost use Rattle.domain.specs.Atoms.{members};
-ghost use Rattle.novelty.specs.Values.{base_of, value_key, value_keys, value_count, bounded_count, values_fault, KeyForValues};
+ghost use Rattle.novelty.specs.Values.{base_of, value_key, value_keys, value_count, values_fault, KeyForValues};
 ghost use Rattle.novelty.specs.ValuesMade.{features_of};
 ghost use Rattle.novelty.specs.Valued.{key_below};
 ghost use Rattle.std.proofs.Common.{rules, arith};
@@ -12,14 +12,10 @@ use crate::values::FeatureValues;
 use domain::atoms::AtomSet;
 use domain::refusal::Refusal;
 use sketch::feature::Feature;
-use sketch::held::hold_first;
+use sketch::held::Held;
 
-// Whether there are more features than a measure takes.
-fn are_many(features: &[Feature]) -> bool
-    ensures { result ≡ nat_lt 8 (length features.now) }
-{
-    features.len() > 8
-}
+// No measure is by more features.
+const MAX_FEATURES: usize = 8;
 
 // How many values the feature can have.
 fn base(feature: &Feature) -> usize
@@ -31,11 +27,11 @@ fn base(feature: &Feature) -> usize
 
 // How many keys the features give, unless a measure may not have so many.
 fn count_keys(features: &[Feature]) -> Option<usize>
-    ensures { result ≡ bounded_count (value_count features.now) }
+    ensures { MatchOption result (65536 < value_count features.now) (λ keys. (keys ≡ value_count features.now) × (keys ≤ 65536)) }
 {
     let mut keys = 1;
-    for i in (0..features.len()).rev() {
-        keys *= base(&features[i]);
+    for feature in features {
+        keys *= base(feature);
         if keys > MOST_KEYS {
             return None;
         }
@@ -49,46 +45,36 @@ fn key_of(features: &[Feature], truths: &AtomSet) -> usize
     ensures { result ≡ value_key features.now (members truths.now) }
 {
     let mut key = 0;
-    for i in (0..features.len()).rev() {
-        key = features[i].value(truths) + base(&features[i]) * key;
+    for feature in features.iter().rev() {
+        key = feature.value(truths) + base(feature) * key;
     }
     key
 }
 
 impl FeatureValues {
     // The measure by these features, or why there is none.
+    #[tactic(auto, using(crate::specs::Valued::key_for_values))]
     pub fn new(features: &[Feature]) -> Result<FeatureValues, Refusal>
         ensures answer { elim result [ Ok m ↦ (values_fault features.now ≡ None) × (features_of m ≡ features.now) | Err e ↦ values_fault features.now ≡ Some e ] }
         ensures distinct { KeyForValues features.now }
     {
-        if are_many(features) {
-            return Err(Refusal::Limit { place: 8 });
+        if features.len() > MAX_FEATURES {
+            return Err(Refusal::Limit {
+                place: MAX_FEATURES,
+            });
         }
-        match count_keys(features) {
-            Some(keys) => Ok(FeatureValues::hold(features, keys)),
-            None => Err(Refusal::ManyKeys),
-        }
-    }
-
-    // The measure by features that give so many keys.
-    fn hold(features: &[Feature], keys: usize) -> FeatureValues
-        requires few { length features.now ≤ 8 }
-        requires counted { keys ≡ value_count features.now }
-        requires limit { keys ≤ 65536 }
-        ensures { features_of result ≡ features.now }
-    {
-        FeatureValues {
-            features: hold_first(features, Feature::blank()),
-            feature_count: features.len(),
+        let keys = count_keys(features).ok_or(Refusal::ManyKeys)?;
+        Ok(FeatureValues {
+            features: Held::first(features, Feature::blank()),
             keys,
-        }
+        })
     }
 
     // The key where the atoms of `truths` are the true ones.
     fn key(&self, truths: &AtomSet) -> usize
         ensures { result ≡ value_key (features_of self.now) (members truths.now) }
     {
-        key_of(&self.features[0..self.feature_count], truths)
+        key_of(self.features.as_slice(), truths)
     }
 }
 
