@@ -1,7 +1,11 @@
 // The cases of a stored corpus: for each a line `case NAME LENGTH`, then exactly LENGTH bytes of text, then a newline.
 #![tactic(auto)]
 
-ghost use Rattle.std.specs.Prelude.{◌<◌, length, IfSome};
+ghost use Rattle.std.specs.Prelude.{◌≡◌, ◌<◌, length, IfSome, MatchOption, Contains};
+ghost use Rattle.std.specs.Str.Parse.{IsNumeral, digits_value};
+ghost use Rattle.cases.specs.Case.{IsCut, IsCase};
+
+use thiserror::Error;
 
 // A case, and the bytes behind it.
 #[derive(Clone, Copy)]
@@ -11,47 +15,72 @@ pub struct Case<'a> {
     pub rest: &'a [u8],
 }
 
-// Where a byte stands first.
-fn find(bytes: &[u8], wanted: u8) -> Option<usize>
-    ensures { IfSome result (λ i. i < length bytes.now) }
+// Some bytes are left, and no case stands first in them.
+#[derive(Debug, Drop, Error)]
+#[error("the corpus is damaged")]
+pub struct Damaged;
+
+// What stands before the first such byte, and what stands behind it.
+fn cut(bytes: &[u8], at: u8) -> Option<(&[u8], &[u8])>
+    ensures { MatchOption result (¬ (Contains bytes.now at)) (λ parts. IsCut at bytes.now parts.0.now parts.1.now) }
 {
-    for (i, byte) in bytes.iter().enumerate() {
-        if *byte == wanted {
-            return Some(i);
-        }
-    }
-    None
+    let place = bytes.iter().position(|byte| *byte == at)?;
+    Some((&bytes[..place], &bytes[place + 1..]))
 }
 
-// The number that some digits write.
-fn number(digits: &[u8]) -> Option<usize> {
-    let mut value: usize = 0;
-    for digit in digits {
-        if *digit < b'0' || *digit > b'9' {
-            return None;
-        }
-        value = value
-            .checked_mul(10)?
-            .checked_add((*digit - b'0') as usize)?;
+// The number that digits alone write; `parse` takes a plus before them too.
+fn number(digits: &[u8]) -> Option<usize>
+    ensures { IfSome result (λ n. IsNumeral 10 digits.now × (n ≡ digits_value 10 digits.now)) }
+{
+    if digits.first() == Some(&b'+') {
+        return None;
     }
-    Some(value)
+    std::str::from_utf8(digits).ok()?.parse().ok()
 }
 
 // The first case of some bytes; what is behind it is shorter.
 pub fn next_case(input: &[u8]) -> Option<Case<'_>>
-    ensures { IfSome result (λ c. length c.rest.now < length input.now) }
+    ensures case { IfSome result (λ c. IsCase input.now c.name.now c.text.now c.rest.now) }
+    ensures shorter { IfSome result (λ c. length c.rest.now < length input.now) }
 {
-    let end = find(input, b'\n')?;
-    let words = input[0..end].strip_prefix(b"case ")?;
-    let space = find(words, b' ')?;
-    let size = number(&words[space + 1..])?;
-    let after = &input[end + 1..];
-    if size >= after.len() {
-        return None;
+    let (line, after) = cut(input, b'\n')?;
+    let words = line.strip_prefix(b"case ")?;
+    let (name, digits) = cut(words, b' ')?;
+    let (text, behind) = after.split_at_checked(number(digits)?)?;
+    let rest = behind.strip_prefix(b"\n")?;
+    Some(Case { name, text, rest })
+}
+
+// The cases of a corpus, one after the other. Bytes that no case begins are one last item, an error.
+#[derive(Drop)]
+pub struct Cases<'a> {
+    rest: &'a [u8],
+}
+
+impl<'a> Cases<'a> {
+    pub fn new(corpus: &'a [u8]) -> Cases<'a>
+        ensures { result.rest.now ≡ corpus.now }
+    {
+        Cases { rest: corpus }
     }
-    Some(Case {
-        name: &words[0..space],
-        text: &after[0..size],
-        rest: &after[size + 1..],
-    })
+}
+
+impl<'a> Iterator for Cases<'a> {
+    ghost use Rattle.std.specs.Iterator.{at_most};
+    ghost use Rattle.cases.specs.Cases.{NextCase};
+
+    type Item = Result<Case<'a>, Damaged>;
+
+    ghost next_gives = { NextCase };
+
+    ghost remaining = { λ c. at_most (length c.rest.now) };
+
+    fn next(&mut self) -> Option<Result<Case<'a>, Damaged>> {
+        if self.rest.is_empty() {
+            return None;
+        }
+        let found = next_case(self.rest);
+        self.rest = found.map_or(&[], |case| case.rest);
+        Some(found.ok_or(Damaged))
+    }
 }

@@ -2,9 +2,7 @@
 // text, and behind those of a good one how many atoms, actions, features and rules it has.
 #![tactic(auto)]
 
-use anyhow::anyhow;
-use cases::{Case, next_case};
-use domain::atoms::AtomSet;
+use cases::{Case, Cases};
 use domain::strips::Action;
 use problem::problem::{MAX_BYTES, Problem, read_limited};
 use std::io;
@@ -23,11 +21,7 @@ fn print_good(rt: &HostRuntime, name: &str, problem: &Problem) -> io::Result<()>
 
 fn print_case(rt: &HostRuntime, case: &Case) -> anyhow::Result<()> {
     let name = std::str::from_utf8(case.name)?;
-    let mut actions = [Action {
-        preconditions: AtomSet::empty(),
-        additions: AtomSet::empty(),
-        deletions: AtomSet::empty(),
-    }; PLACES];
+    let mut actions = [Action::default(); PLACES];
     match read_limited(case.text, MAX_BYTES, &mut actions) {
         Ok(problem) => print_good(rt, name, &problem)?,
         Err(fault) => {
@@ -39,20 +33,11 @@ fn print_case(rt: &HostRuntime, case: &Case) -> anyhow::Result<()> {
     Ok(())
 }
 
-fn print_cases(rt: &HostRuntime, corpus: &[u8]) -> anyhow::Result<()> {
-    let mut rest = corpus;
-    while let Some(case) = next_case(rest) {
-        print_case(rt, &case)?;
-        rest = case.rest;
-    }
-    if !rest.is_empty() {
-        return Err(anyhow!("the corpus is damaged"));
-    }
-    Ok(())
-}
-
 fn main(rt: HostRuntime) -> anyhow::Result<()> {
     let mut corpus = Vec::new(rt.alloc());
     rt.stdin().read_to_end(&mut corpus)?;
-    print_cases(&rt, &corpus)
+    for case in Cases::new(&corpus) {
+        print_case(&rt, &case?)?;
+    }
+    Ok(())
 }
