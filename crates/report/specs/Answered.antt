@@ -1,5 +1,5 @@
 -- What is answered for a problem text, by what the text means. Assumes nothing.
-use Rattle.std.specs.Prelude.{◌≡◌, ℕ, false, List, replicate, Some, None, Ok, Err, Option, Result}
+use Rattle.std.specs.Prelude.{◌≡◌, ℕ, List, replicate, Some, None, Ok, Err, Option, Result}
 use Rattle.domain.specs.Atoms.{none}
 use Rattle.domain.specs.Fault.{strips_fault}
 use Rattle.domain.specs.Model.{Meaning}
@@ -57,4 +57,4 @@ Answers (Ok p) before after r = (k : Sketch) × (features_of k ≡ p.features) �
 
 -- the row of no search
 abbrev pub unmade_row : Row
-unmade_row = record { number = 0; width = 0; found = false; expanded = 0; kept = 0; length = 0 }
+unmade_row = record { number = 0; width = 0; expanded = 0; kept = 0; length = None }

@@ -3,6 +3,7 @@
 #![tactic(auto)]
 
 ghost use Rattle.std.specs.Prelude.{◌≡◌, ◌≤◌, length, take};
+ghost use Rattle.std.specs.Iterator.{IsFinite};
 ghost use Rattle.problem.specs.Problem.{held, limited_problem};
 ghost use Rattle.report.specs.Answered.{lists, unmade_row, SolvesParsed, Answers};
 
@@ -25,17 +26,10 @@ pub const ROWS: usize = 1_539;
 const ACTIONS: usize = 64;
 
 // A row for a search that is not made yet.
-pub const fn blank_row() -> Row
+pub fn blank_row() -> Row
     ensures { result ≡ unmade_row }
 {
-    Row {
-        number: 0,
-        width: 0,
-        found: false,
-        expanded: 0,
-        kept: 0,
-        length: 0,
-    }
+    Row::default()
 }
 
 // Solves a problem whose actions stand at the beginning of the table; the steps and the rows go into the lent lists.
@@ -48,13 +42,9 @@ fn solve_problem(
     requires { problem.now.action_count ≤ length table.now }
     ensures { SolvesParsed (held problem.now (take problem.now.action_count table.now)) problem.now.sketch (lists plan.old rows.old) (lists plan.new rows.new) result }
 {
-    let actions = &table[0..problem.action_count];
+    let actions = &table[..problem.action_count];
     let model = Strips::new(problem.atoms, problem.start, problem.goal, actions)?;
-    let mut nodes = [Node {
-        state: AtomSet::empty(),
-        parent: 0,
-        action: 0,
-    }; PLACES];
+    let mut nodes = [Node::unlinked(AtomSet::empty()); PLACES];
     let mut marks = [0u8; PLACES];
     solve(model, problem.sketch, &mut nodes, &mut marks, plan, rows)
 }
@@ -63,16 +53,9 @@ fn solve_problem(
 pub fn solve_text(text: &[u8], plan: &mut [usize], rows: &mut [Row]) -> Result<Report, Refusal>
     ensures { Answers (limited_problem 16384 64 text.now) (lists plan.old rows.old) (lists plan.new rows.new) result }
 {
-    let none = AtomSet::empty();
-    let mut table = [Action {
-        preconditions: none,
-        additions: none,
-        deletions: none,
-    }; ACTIONS];
-    match read_limited(text, MAX_BYTES, &mut table) {
-        Ok(problem) => solve_problem(&problem, &table, plan, rows),
-        Err(fault) => Err(fault.refusal()),
-    }
+    let mut table = [Action::default(); ACTIONS];
+    let problem = read_limited(text, MAX_BYTES, &mut table).map_err(|fault| fault.refusal())?;
+    solve_problem(&problem, &table, plan, rows)
 }
 
 // The searches and the plan, which stand at the beginning of their lists; or only the refusal.
@@ -84,7 +67,7 @@ pub fn print_result(
 ) -> io::Result<()> {
     match res {
         Ok(report) => {
-            print_searches(rt, rows, report.rows)?;
+            print_searches(rt, rows.iter().take(report.rows).copied())?;
             print_plan(rt, plan, report.steps)
         }
         Err(refusal) => print_refusal(rt, refusal),
@@ -99,27 +82,20 @@ pub fn print_refusal(rt: &HostRuntime, refusal: &Refusal) -> io::Result<()> {
     println!(rt; "{number} {place}")
 }
 
-// One line a search: its number, the width, whether it found a way, the expanded and kept states, and the length.
-fn print_searches(rt: &HostRuntime, rows: &[Row], count: usize) -> io::Result<()> {
+// One line a search.
+pub fn print_searches<I: Iterator<Item = Row>>(rt: &HostRuntime, rows: I) -> io::Result<()>
+    requires can { I.can_next rows }
+    requires ends { IsFinite (I.remaining rows) }
+{
     println!(rt; "search k found expanded kept length")?;
-    for row in rows.iter().take(count) {
-        print_search(rt, row)?;
+    for row in rows {
+        println!(rt; "{row}")?;
     }
     Ok(())
 }
 
-fn print_search(rt: &HostRuntime, row: &Row) -> io::Result<()> {
-    let found = if row.found { 1 } else { 0 };
-    let number = row.number;
-    let width = row.width;
-    let expanded = row.expanded;
-    let kept = row.kept;
-    let length = row.length;
-    println!(rt; "{number} {width} {found} {expanded} {kept} {length}")
-}
-
-// One line a step: its number and the action.
-fn print_plan(rt: &HostRuntime, plan: &[usize], steps: usize) -> io::Result<()> {
+// One line a step, of those at the beginning of the list: its number and the action.
+pub fn print_plan(rt: &HostRuntime, plan: &[usize], steps: usize) -> io::Result<()> {
     println!(rt; "")?;
     println!(rt; "step action")?;
     for (step, action) in plan.iter().take(steps).enumerate() {

@@ -29,14 +29,6 @@ const PAIRS: [(u8, u8); 12] = [
     (3, 2),
 ];
 
-fn set_of(atoms: &[u8]) -> AtomSet {
-    let mut set = AtomSet::empty();
-    for atom in atoms {
-        set.insert(*atom);
-    }
-    set
-}
-
 // Block numbers are below 4, so that `|` adds.
 fn on_table(x: u8) -> u8 {
     4 | x
@@ -46,75 +38,48 @@ fn held(x: u8) -> u8 {
     8 | x
 }
 
-fn pick_up(x: u8) -> Action {
-    let before = set_of(&[x, on_table(x), FREE]);
+// An action that makes its preconditions false.
+fn replacing(before: &[u8], after: &[u8]) -> Action {
+    let preconditions = AtomSet::of(before);
     Action {
-        preconditions: before,
-        additions: set_of(&[held(x)]),
-        deletions: before,
+        preconditions,
+        additions: AtomSet::of(after),
+        deletions: preconditions,
     }
+}
+
+fn pick_up(x: u8) -> Action {
+    replacing(&[x, on_table(x), FREE], &[held(x)])
 }
 
 fn put_down(x: u8) -> Action {
-    let before = set_of(&[held(x)]);
-    Action {
-        preconditions: before,
-        additions: set_of(&[x, on_table(x), FREE]),
-        deletions: before,
-    }
+    replacing(&[held(x)], &[x, on_table(x), FREE])
 }
 
 // `on` is the atom that x stands on y.
-fn stack(x: u8, y: u8, on: u8) -> Action {
-    let before = set_of(&[held(x), y]);
-    Action {
-        preconditions: before,
-        additions: set_of(&[x, on, FREE]),
-        deletions: before,
-    }
+fn stack(((x, y), on): ((u8, u8), u8)) -> Action {
+    replacing(&[held(x), y], &[x, on, FREE])
 }
 
-fn take_off(x: u8, y: u8, on: u8) -> Action {
-    let before = set_of(&[x, on, FREE]);
-    Action {
-        preconditions: before,
-        additions: set_of(&[held(x), y]),
-        deletions: before,
-    }
-}
-
-fn add_lifts(table: &mut [Action; 32]) {
-    for x in 0..4 {
-        table[x] = pick_up(x as u8);
-        table[4 + x] = put_down(x as u8);
-    }
-}
-
-fn add_stacks(table: &mut [Action; 32]) {
-    for i in 0..12 {
-        let (x, y) = PAIRS[i];
-        let on = FIRST_ON + i as u8;
-        table[8 + i] = stack(x, y, on);
-        table[20 + i] = take_off(x, y, on);
-    }
+fn take_off(((x, y), on): ((u8, u8), u8)) -> Action {
+    replacing(&[x, on, FREE], &[held(x), y])
 }
 
 // The table of actions.
-pub fn actions() -> [Action; 32] {
-    let none = AtomSet::empty();
-    let mut table = [Action {
-        preconditions: none,
-        additions: none,
-        deletions: none,
-    }; 32];
-    add_lifts(&mut table);
-    add_stacks(&mut table);
+pub fn actions() -> [Action; ACTIONS] {
+    let lifts = (0..4).map(pick_up).chain((0..4).map(put_down));
+    let pairs = || PAIRS.into_iter().zip(FIRST_ON..);
+    let stacks = pairs().map(stack).chain(pairs().map(take_off));
+    let mut table = [Action::default(); ACTIONS];
+    for (place, action) in table.iter_mut().zip(lifts.chain(stacks)) {
+        *place = action;
+    }
     table
 }
 
 // C on A, and A, B, D on the table: B, C and D are clear, and the hand is free.
 pub fn start() -> AtomSet {
-    set_of(&[
+    AtomSet::of(&[
         1,
         2,
         3,
@@ -128,5 +93,5 @@ pub fn start() -> AtomSet {
 
 // A on B, and B on C.
 pub fn goal() -> AtomSet {
-    set_of(&[FIRST_ON, FIRST_ON + 4])
+    AtomSet::of(&[FIRST_ON, FIRST_ON + 4])
 }

@@ -22,7 +22,7 @@ fn solve_input(
 fn main(rt: HostRuntime) -> anyhow::Result<()> {
     let mut plan = [0; PLACES];
     let mut rows = [blank_row(); ROWS];
-    let result = match env::args(&rt)?.skip(1).next() {
+    let result = match env::args(&rt)?.nth(1) {
         Some(path) => {
             let text = fs::read(&rt, path.as_str())?;
             solve_text(&text, &mut plan, &mut rows)
@@ -30,8 +30,5 @@ fn main(rt: HostRuntime) -> anyhow::Result<()> {
         None => solve_input(&rt, &mut plan, &mut rows)?,
     };
     print_result(&rt, &result, &plan, &rows)?;
-    match result {
-        Ok(_) => Ok(()),
-        Err(_) => Err(anyhow!("refused")),
-    }
+    result.map(|_| ()).map_err(|_| anyhow!("refused"))
 }

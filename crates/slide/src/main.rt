@@ -37,12 +37,7 @@ fn search(
 
 // Solves the puzzle in memory of its own, and prints what came of it.
 fn solve_board(rt: &HostRuntime, start: Board) -> io::Result<()> {
-    let blank = Node {
-        state: start,
-        parent: 0,
-        action: 0,
-    };
-    let mut nodes = vec![in rt.alloc(); blank; PLACES]?;
+    let mut nodes = vec![in rt.alloc(); Node::unlinked(start); PLACES]?;
     let mut marks = vec![in rt.alloc(); 0; PLACES]?;
     let mut plan = vec![in rt.alloc(); 0; PLACES]?;
     let mut rows = [blank_row(); ROWS];

@@ -1,16 +1,16 @@
 -- One search from its begin to the end of its claim, by what each call replies and leaves. Assumes nothing.
-use Rattle.std.proofs.Common.{◌≡◌, ℕ, ◌+◌, ◌<◌, Bool, true, false, cond, not, ◌&&◌, eqb, ltb, List, length, is_some, Some, None, Ok, Err, Option, Result, sym, refl, ap, ◌∙◌, ap₂, add-zero, arith}
-use Rattle.std.proofs.lemmas.Bool.{eq-eqb, lt-ltb}
+use Rattle.std.proofs.Common.{◌≡◌, ℕ, ◌+◌, true, false, cond, not, ◌&&◌, eqb, ltb, List, length, is_some, Some, None, Ok, Err, Option, Result, sym, refl, ap, ◌∙◌, ap₂, add-zero, arith, subst}
+use Rattle.std.proofs.lemmas.Bool.{eq-eqb}
+use Rattle.std.specs.Result.{MatchResult, IsErrAnd}
 use Rattle.domain.specs.declared.refusal.Refusal.{Refusal}
 use Rattle.domain.specs.declared.refusal.Refusal.TheVariants.{AtTarget, SearchOpen, ManySearches, FewPlaces, ForeignClaim}
 use Rattle.novelty.specs.Tuples.{tuple_keys, tuple_count, tuples_fault}
 use Rattle.novelty.specs.declared.tuples.Tuples.{Tuples}
 use Rattle.planner.specs.Search.{Task, Snapshot, task, begun}
 use Rattle.planner.specs.Stepwise.{UnderWay, started, moved_on, lacks}
-use Rattle.planner.specs.Way.{way_to, end_of}
-use Rattle.planner.specs.Whole.{outcome_of, at_end}
+use Rattle.planner.specs.Way.{end_of}
+use Rattle.planner.specs.Whole.{at_end}
 use Rattle.planner.specs.Widths.{first_fault}
-use Rattle.planner.specs.declared.node.Link.{Link}
 use Rattle.planner.specs.declared.node.Node.{Node}
 use Rattle.planner.specs.declared.node.Outcome.{Outcome}
 use Rattle.planner.specs.declared.node.Outcome.TheVariants.{Found, Exhausted, Open}
@@ -20,16 +20,24 @@ use Rattle.runs.specs.Calls.{unless, told, handed, same_phase, phase_of, given, 
 use Rattle.runs.specs.declared.claim.Phase.TheVariants.{Met}
 use Rattle.runs.specs.declared.claim.Progressed.{Progressed}
 use Rattle.runs.specs.declared.claim.Refused.{Refused}
-use Rattle.runs.specs.declared.claim.Ticket.{Ticket}
 use Rattle.runs.specs.declared.claim.Work.{Work}
 use Rattle.runs.proofs.Replies.{passed}
-use Rattle.solver.specs.Attempt.{without_claim, settle_fault, settled_length, settled_run, settled_plan, outcome_at, way_at, width_task, opening_fault, ended, way_refused, closing_fault, SearchedOut, run_after, plan_written, nodes_after, attempt_fault, plan_after, row_of}
+use Rattle.solver.specs.Attempt.{steps_of, settle_fault, settled_length, settled_run, settled_plan, outcome_at, way_at, width_task, opening_fault, ended, way_refused, closing_fault, SearchedOut, run_after, plan_written, nodes_after, attempt_fault, plan_after, row_of}
 use Rattle.solver.specs.declared.report.Row.{Row}
 
--- without its claim a reply is what is told
-pub without_handed : {X C : Type 0} (f : Option Refusal) (c : C) (x : X) → without_claim (handed f c x) ≡ told f x
-without_handed (Some e) c x = refl
-without_handed None c x = refl
+-- Where a refusal's claim is spent, by a step that keeps the refusal, what was handed is told.
+pub spent_told : {X C : Type 0} (Q : Refused C → Refusal → Type 0) → ((e : Refused C) (d : Refusal) → Q e d → d ≡ e.refusal)
+    → (f : Option Refusal) (c : C) (x : X) (r : Result X (Refused C)) (s : Result X Refusal) → r ≡ handed f c x
+    → MatchResult r (λ y. s ≡ Ok y) (λ e. IsErrAnd s (Q e)) → s ≡ told f x
+spent_told {X} {C} Q keeps f c x r s is h = by_fault f (subst (λ q. MatchResult q (λ y. s ≡ Ok y) (λ e. IsErrAnd s (Q e))) is h)
+  where
+    by_reply : (e : Refused C) (q : Result X Refusal) → IsErrAnd q (Q e) → q ≡ Err e.refusal
+    by_reply e (Ok y) wrong = absurd wrong
+    by_reply e (Err d) q = ap Err (keeps e d q)
+
+    by_fault : (o : Option Refusal) → MatchResult (handed o c x) (λ y. s ≡ Ok y) (λ e. IsErrAnd s (Q e)) → s ≡ told o x
+    by_fault (Some e) p = by_reply (record { refusal = e; claim = c }) s p
+    by_fault None p = p
 
 pub told_refused : {X : Type 0} (f : Option Refusal) (x : X) (e : Refusal) → told f x ≡ Err e → f ≡ Some e
 told_refused (Some d) x e h = cc
@@ -83,7 +91,7 @@ module _ {S : Type 0} (v : View S Tuples) (N k : ℕ) (m : Tuples) (atoms : m.at
   ended_is = ap (λ T. at_end T nodes marks) task_is
 
   -- begin was not refused: w, t, states and table are what it left and replied
-  module _ (free : fault ≡ None) (w : View S Tuples) (t : Ticket) (states : List (Node S)) (table : List ℕ) (budget : ℕ)
+  module _ (free : fault ≡ None) (w : View S Tuples) (t : ℕ) (states : List (Node S)) (table : List ℕ) (budget : ℕ)
       (w_is : w ≡ unless fault v (begun_run v m n)) (t_is : t ≡ begun_ticket v) (states_are : states ≡ unless fault nodes (begun Q nodes marks).nodes)
       (table_is : table ≡ unless fault marks (begun Q nodes marks).marks) (all : budget ≡ n) (same_states : length states ≡ length nodes)
       (same_table : length table ≡ length marks) where
@@ -107,9 +115,9 @@ module _ {S : Type 0} (v : View S Tuples) (N k : ℕ) (m : Tuples) (atoms : m.at
         (passed (lacks n (length nodes) (length marks)) FewPlaces None c.1).0
 
     -- then work is not refused
-    work_free : work_fault w t.number (length states) (length table) ≡ None
+    work_free : work_fault w t (length states) (length table) ≡ None
     work_free =
-        cong4 (λ x a b c. work_fault x a b c) w_run (ap (λ x. x.number) t_is) same_states same_table
+        cong4 (λ x a b c. work_fault x a b c) w_run t_is same_states same_table
         ∙ ap (λ b. cond (b && true) (cond (lacks n (length nodes) (length marks)) (Some FewPlaces) None) (Some ForeignClaim)) (own_number (v.searches + 1))
         ∙ ap (λ b. cond b (Some FewPlaces) None) enough
 
@@ -117,25 +125,24 @@ module _ {S : Type 0} (v : View S Tuples) (N k : ℕ) (m : Tuples) (atoms : m.at
     worked_is : worked w (λ x. tuples x) budget states table ≡ ended N k v nodes marks
     worked_is = cong4 (λ x b y z. worked x (λ q. tuples q) b y z) w_run all states_begun table_begun ∙ ended_is
 
-    pub search_reply : (r : Result Work (Refused Ticket)) (s : Result Work Refusal)
-        → r ≡ handed (work_fault w t.number (length states) (length table)) t (worked_reply w t.number (worked w (λ x. tuples x) budget states table))
-        → s ≡ without_claim r
+    pub search_reply : (s : Result Work Refusal)
+        → s ≡ told (work_fault w t (length states) (length table)) (worked_reply w t (worked w (λ x. tuples x) budget states table))
         → s ≡ told (opening_fault N k v (length nodes) (length marks)) (worked_reply v (v.searches + 1) (ended N k v nodes marks))
-    search_reply r s e h =
-        h ∙ ap without_claim e ∙ without_handed (work_fault w t.number (length states) (length table)) t _
-        ∙ ap (λ f. told f (worked_reply w t.number (worked w (λ x. tuples x) budget states table))) work_free
-        ∙ ap₂ (λ a g. Ok (worked_reply v a g)) (ap (λ x. x.number) t_is) worked_is
+    search_reply s is =
+        is
+        ∙ ap (λ f. told f (worked_reply w t (worked w (λ x. tuples x) budget states table))) work_free
+        ∙ ap₂ (λ a g. Ok (worked_reply v a g)) t_is worked_is
         ∙ sym (ap (λ f. told f (worked_reply v (v.searches + 1) (ended N k v nodes marks))) opened)
 
     pub search_list : {X : Type 0} (part : Snapshot S → List X) (before after old : List X)
-        → after ≡ unless (work_fault w t.number (length states) (length table)) before (part (worked w (λ x. tuples x) budget states table))
+        → after ≡ unless (work_fault w t (length states) (length table)) before (part (worked w (λ x. tuples x) budget states table))
         → after ≡ unless (opening_fault N k v (length nodes) (length marks)) old (part (ended N k v nodes marks))
     search_list part before after old e =
         e ∙ ap (λ f. unless f before (part (worked w (λ x. tuples x) budget states table))) work_free ∙ ap part worked_is
         ∙ sym (ap (λ f. unless f old (part (ended N k v nodes marks))) opened)
 
     pub search_run : (next : View S Tuples)
-        → next ≡ unless (work_fault w t.number (length states) (length table)) w (worked_run w (worked w (λ x. tuples x) budget states table))
+        → next ≡ unless (work_fault w t (length states) (length table)) w (worked_run w (worked w (λ x. tuples x) budget states table))
         → SearchedOut N k v (ended N k v nodes marks) next
     search_run next e = record {
       under = moved_on (started m n) (ended N k v nodes marks);
@@ -177,9 +184,9 @@ module _ {S M : Type 0} (N k : ℕ) (v : View S M) (u : UnderWay M) (count : u.c
       ∙ ap (λ c. segment_fault v w c nodes places) count
   fault_by Exhausted is places = abandoned Exhausted is
 
-  length_by : (o : Outcome) → u.outcome ≡ o → settled_length (with_open v u) (given o (v.searches + 1)) ≡ way_length (way_in o)
+  length_by : (o : Outcome) → u.outcome ≡ o → settled_length (with_open v u) (given o (v.searches + 1)) ≡ steps_of (way_in o)
   length_by Open is = refl
-  length_by (Found w) is = ap (λ x. way_length (way_in x)) is
+  length_by (Found w) is = ap (λ x. Some (way_length (way_in x))) is
   length_by Exhausted is = refl
 
   abbrev stood : S → ℕ → ℕ → View S M
@@ -211,19 +218,6 @@ module _ {S M : Type 0} (N k : ℕ) (v : View S M) (u : UnderWay M) (count : u.c
   plan_by (Found w) is plan = ap (λ x. placed plan v.length (way_actions nodes (way_in x))) is
   plan_by Exhausted is plan = refl
 
--- a way that was found has a step at least
-found_long : {S : Type 0} (nodes : List (Node S)) (met : Option Link) (expanded kept : ℕ)
-    → ltb 0 (way_length (way_in (outcome_of nodes met expanded kept))) ≡ is_some (way_in (outcome_of nodes met expanded kept))
-found_long nodes (Some l) expanded kept =
-    let links = length (way_to nodes l.parent l.parent) in
-    let some : 0 < links + 1 = omega arith in
-    lt-ltb 0 (links + 1) some
-found_long nodes None expanded kept = go (ltb expanded kept)
-  where
-    go : (b : Bool) → ltb 0 (way_length (way_in (cond b Open Exhausted))) ≡ is_some (way_in (cond b Open Exhausted))
-    go true = refl
-    go false = refl
-
 -- The search has ended as g says and stands open in w, whose claim is spent in the states that it left.
 module _ {S M : Type 0} (N k : ℕ) (v : View S M) (nodes : List (Node S)) (marks plan : List ℕ)
     (free : opening_fault N k v (length nodes) (length marks) ≡ None) (w : View S M) (X : SearchedOut N k v (ended N k v nodes marks) w)
@@ -247,12 +241,12 @@ module _ {S M : Type 0} (N k : ℕ) (v : View S M) (nodes : List (Node S)) (mark
       ∙ fault_by N k v X.under X.count g.nodes (outcome_at g) X.outcome (length plan)
       ∙ sym (ap (λ f. first_fault f (closing_fault N k v g (length plan))) free)
 
-  pub settle_refused : (r : Result ℕ Refusal) (e : Refusal) → r ≡ told (settle_fault w claim states (length plan)) (settled_length w claim) → r ≡ Err e
+  pub settle_refused : (r : Result (Option ℕ) Refusal) (e : Refusal) → r ≡ told (settle_fault w claim states (length plan)) (settled_length w claim) → r ≡ Err e
       → attempt_fault N k v nodes marks plan ≡ Some e
   settle_refused r e is err = sym fault_is ∙ told_refused _ (settled_length w claim) e (sym is ∙ err)
 
-  pub settle_given : (r : Result ℕ Refusal) (n : ℕ) → r ≡ told (settle_fault w claim states (length plan)) (settled_length w claim) → r ≡ Ok n
-      → (attempt_fault N k v nodes marks plan ≡ None) × (n ≡ way_length (way_at g))
+  pub settle_given : (r : Result (Option ℕ) Refusal) (n : Option ℕ) → r ≡ told (settle_fault w claim states (length plan)) (settled_length w claim) → r ≡ Ok n
+      → (attempt_fault N k v nodes marks plan ≡ None) × (n ≡ steps_of (way_at g))
   settle_given r n is ok =
       let both = told_given (settle_fault w claim states (length plan)) (settled_length w claim) n (sym is ∙ ok) in (
         sym fault_is ∙ both.0,
@@ -288,9 +282,15 @@ module _ {S M : Type 0} (N k : ℕ) (v : View S M) (nodes : List (Node S)) (mark
       same None = refl
       same (Some x) = refl
 
-pub attempt_row : {S : Type 0} (g : Snapshot S) (number k n : ℕ) (found : Bool) (expanded kept : ℕ) → expanded ≡ g.expanded → kept ≡ g.kept
-    → n ≡ way_length (way_at g) → found ≡ ltb 0 n
-    → ◌≡◌ {A = Row} (record { number = number; width = k; found = found; expanded = expanded; kept = kept; length = n }) (row_of number k g)
-attempt_row g number k n found expanded kept e q l f =
-    cong4 (λ a b c d. record { number = number; width = k; found = a; expanded = b; kept = c; length = d })
-    (f ∙ ap (ltb 0) l ∙ found_long g.nodes g.met g.expanded g.kept) e q l
+pub attempt_row : {S : Type 0} (g : Snapshot S) (number k : ℕ) (n : Option ℕ) (expanded kept : ℕ) → expanded ≡ g.expanded → kept ≡ g.kept
+    → n ≡ steps_of (way_at g)
+    → ◌≡◌ {A = Row} (record { number = number; width = k; expanded = expanded; kept = kept; length = n }) (row_of number k g)
+attempt_row g number k n expanded kept e q l = cong4 (λ a b c d. record { number = d; width = k; expanded = a; kept = b; length = c }) e q l refl
+
+-- its row tells of a length where it found a way
+pub row_found : {S : Type 0} (g : Snapshot S) (number k : ℕ) (row : Row) → row ≡ row_of number k g → is_some row.length ≡ is_some (way_at g)
+row_found g number k row is = ap (λ r. is_some r.length) is ∙ same (way_at g)
+  where
+    same : (o : Option Way) → is_some (steps_of o) ≡ is_some o
+    same None = refl
+    same (Some w) = refl

@@ -29,7 +29,7 @@ use Rattle.runs.proofs.Adopting.{holds_long}
 use Rattle.runs.proofs.Replies.{passed, not_broken, no_refusal}
 use Rattle.runs.proofs.Standing.{no_standstill}
 use Rattle.runs.proofs.Ways.{leads_append, runs_below}
-use Rattle.solver.specs.Attempt.{outcome_at, way_at, row_of, way_refused, closing_fault, opening_fault, plan_written}
+use Rattle.solver.specs.Attempt.{outcome_at, way_at, steps_of, row_of, way_refused, closing_fault, opening_fault, plan_written}
 use Rattle.solver.specs.Reported.{row_at, StubRow, Stubs, Reported}
 use Rattle.solver.specs.Solve.{Memory, Answer, answer, next_width, report, at_its_end, fault_at, found_at, view_after, memory_after, solve_from, solved}
 use Rattle.solver.specs.declared.report.Ending.TheVariants.{AtTarget, ThirdStub}
@@ -58,6 +58,10 @@ none_found : (o : Outcome) → is_some (way_in o) ≡ false → (w : Way) → o 
 none_found Open h w is = let z : ◌≡◌ {A = ℕ} 0 1 = cc in omega arith
 none_found (Found x) h w is = let no : ◌≡◌ {A = Bool} true false = h in let z : ◌≡◌ {A = ℕ} 0 1 = cc in omega arith
 none_found Exhausted h w is = let z : ◌≡◌ {A = ℕ} 0 1 = cc in omega arith
+
+no_steps : (o : Option Way) → is_some o ≡ false → steps_of o ≡ None
+no_steps None h = refl
+no_steps (Some w) h = let no : ◌≡◌ {A = Bool} true false = h in let z : ◌≡◌ {A = ℕ} 0 1 = cc in absurd (omega arith)
 
 some_key : (N k : ℕ) (atoms : List ℕ) → Rising atoms → 1 ≤ length (tuple_keys N k atoms)
 unfolding tuple_keys
@@ -90,7 +94,7 @@ module _ {S : Type 0} (P : Meaning S) (sketch : Sketch) (lawful : Lawful P) wher
     pub stubs : Stubs P sketch k s rows m
 
   abbrev blank : Row
-  blank = record { number = 0; width = 0; found = false; expanded = 0; kept = 0; length = 0 }
+  blank = record { number = 0; width = 0; expanded = 0; kept = 0; length = None }
 
   -- one row more
   module _ (rows : List Row) (m : ℕ) (row : Row) (inside : m < length rows) where
@@ -174,7 +178,7 @@ module _ {S : Type 0} (P : Meaning S) (sketch : Sketch) (lawful : Lawful P) wher
           ⊎_elim (λ bad. absurd (no_standstill sketch (P.truths s) bad)) (λ good. good) (cases_Bool (accepts_step sketch (P.truths s) (P.truths s))) in
           let W = whole_findings (tuple_task (subproblem P sketch s) k) fair_here mem.nodes mem.marks (ltb-false _ _ room.0) (ltb-false _ _ room.1)
           (or_from (P.target s) (accepts_step sketch (P.truths s) (P.truths s)) off.0 apart) in
-          (refl, missed, W.findings.exclusion (ended_exhausted (outcome_at g) (none_found (outcome_at g) missed) W.ends))
+          (refl, no_steps (way_at g) missed, W.findings.exclusion (ended_exhausted (outcome_at g) (none_found (outcome_at g) missed) W.ends))
 
       -- nothing was found, so the run stands where it stood
       stays : end_of P s (way_actions g.nodes (way_at g)) ≡ s

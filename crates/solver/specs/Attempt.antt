@@ -1,6 +1,6 @@
 -- One search of the subproblem at a run's current state, from its begin to the end of its claim: what it replies and
 -- leaves. Assumes nothing.
-use Rattle.std.specs.Prelude.{◌≡◌, ℕ, ◌+◌, List, length, is_some, Some, None, Ok, Err, Option, Result}
+use Rattle.std.specs.Prelude.{◌≡◌, ℕ, ◌+◌, List, length, Some, None, Option}
 use Rattle.domain.specs.declared.refusal.Refusal.{Refusal}
 use Rattle.novelty.specs.Tuples.{tuple_keys, tuple_count, tuples_fault}
 use Rattle.planner.specs.Search.{Task, Snapshot, task}
@@ -16,25 +16,25 @@ use Rattle.runs.specs.Calls.{unless, placed, found_way, way_in, way_actions, way
 use Rattle.runs.specs.declared.claim.Phase.TheVariants.{Working, Ended}
 use Rattle.runs.specs.declared.claim.Progressed.{Progressed}
 use Rattle.runs.specs.declared.claim.Progressed.TheVariants.{Open as Opened, Found as Finds, Exhausted as Exhausts}
-use Rattle.runs.specs.declared.claim.Refused.{Refused}
 use Rattle.solver.specs.declared.report.Row.{Row}
 
--- a reply without the claim that a refusal hands back
-abbrev pub without_claim : {X C : Type 0} → Result X (Refused C) → Result X Refusal
-without_claim (Ok x) = Ok x
-without_claim (Err f) = Err f.refusal
+-- how many actions a way has, if there is a way
+abbrev pub steps_of : Option Way → Option ℕ
+steps_of None = None
+steps_of (Some w) = Some w.length
 
 module _ {S M : Type 0} (v : View S M) where
   -- what a claim of the open search is spent for: a find is adopted, a ticket or a stub is abandoned
   abbrev pub settle_fault : Progressed → List (Node S) → ℕ → Option Refusal
-  settle_fault (Opened t) nodes places = abandon_fault v Working t.number
-  settle_fault (Finds f n) nodes places = adopt_fault v f.number nodes places
-  settle_fault (Exhausts s) nodes places = abandon_fault v Ended s.number
+  settle_fault (Opened t) nodes places = abandon_fault v Working t
+  settle_fault (Finds f n) nodes places = adopt_fault v f nodes places
+  settle_fault (Exhausts s) nodes places = abandon_fault v Ended s
 
-  abbrev pub settled_length : Progressed → ℕ
-  settled_length (Opened t) = 0
-  settled_length (Finds f n) = way_length (found_way v.opened)
-  settled_length (Exhausts s) = 0
+  -- how many steps came to the plan, if a way is adopted
+  abbrev pub settled_length : Progressed → Option ℕ
+  settled_length (Opened t) = None
+  settled_length (Finds f n) = Some (way_length (found_way v.opened))
+  settled_length (Exhausts s) = None
 
   abbrev pub settled_run : Progressed → List (Node S) → View S M
   settled_run (Opened t) nodes = closed_run v
@@ -58,10 +58,9 @@ abbrev pub row_of : {S : Type 0} → ℕ → ℕ → Snapshot S → Row
 row_of n k g = record {
   number = n;
   width = k;
-  found = is_some (way_at g);
   expanded = g.expanded;
   kept = g.kept;
-  length = way_length (way_at g);
+  length = steps_of (way_at g);
 }
 
 -- N is the number of atoms, k the width

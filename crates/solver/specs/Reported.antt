@@ -1,5 +1,5 @@
 -- What a report of the solver says of the model, the plan and the rows. Assumes nothing.
-use Rattle.std.specs.Prelude.{◌≡◌, ℕ, ◌+◌, ◌-◌, ◌<◌, ◌≤◌, Bool, true, false, List, length, take, slice_index_or}
+use Rattle.std.specs.Prelude.{◌≡◌, ℕ, ◌+◌, ◌-◌, ◌<◌, ◌≤◌, Bool, true, List, length, take, None, slice_index_or}
 use Rattle.domain.specs.Model.{Meaning}
 use Rattle.sketch.specs.Subproblem.{subproblem}
 use Rattle.sketch.specs.declared.sketch.Sketch.{Sketch}
@@ -12,13 +12,13 @@ use Rattle.solver.specs.declared.report.Row.{Row}
 
 -- the row at place i
 abbrev pub row_at : List Row → ℕ → Row
-row_at rows i = slice_index_or rows i (record { number = 0; width = 0; found = false; expanded = 0; kept = 0; length = 0 })
+row_at rows i = slice_index_or rows i (record { number = 0; width = 0; expanded = 0; kept = 0; length = None })
 
 module _ {S : Type 0} (P : Meaning S) (sketch : Sketch) where
   -- a row is of a search of width w without a find at s, and no set of at most w atoms' keys is admissible for the subproblem there
   abbrev pub StubRow : S → ℕ → Row → Type 0
   StubRow s w row =
-      (row.width ≡ w) × (row.found ≡ false) × ((T : ℕ → Bool) → Admissible (tuple_task (subproblem P sketch s) w) T → ⊥)
+      (row.width ≡ w) × (row.length ≡ None) × ((T : ℕ → Bool) → Admissible (tuple_task (subproblem P sketch s) w) T → ⊥)
 
   -- the last k of n rows are of searches of the widths 0, 1, .., k - 1 without a find at s
   abbrev pub Stubs : ℕ → S → List Row → ℕ → Type 0

@@ -1,9 +1,11 @@
 // One search of the subproblem at a run's current state, by the sets of at most `width` true atoms, from its begin to the
 // end of its claim.
-ghost use Rattle.std.specs.Prelude.{◌≡◌, ◌+◌, length, Ok, Err};
+// The run and the lent lists are passed one by one: of a struct that holds several `&mut` each clause would say again that
+// each stays the same reference.
+ghost use Rattle.std.specs.Prelude.{◌≡◌, ◌+◌, length, None, Ok};
 ghost use Rattle.runs.specs.Run.{view};
 ghost use Rattle.runs.specs.Calls.{unless, told, worked_reply, abandon_fault, closed_run};
-ghost use Rattle.solver.specs.Attempt.{without_claim, settle_fault, settled_length, settled_run, settled_plan, opening_fault, ended, SearchedOut, attempt_fault, nodes_after, marks_after, plan_after, run_after, row_of};
+ghost use Rattle.solver.specs.Attempt.{settle_fault, settled_length, settled_run, settled_plan, opening_fault, ended, SearchedOut, attempt_fault, nodes_after, marks_after, plan_after, run_after, row_of};
 
 use crate::report::Row;
 use domain::model::StateModel;
@@ -15,41 +17,40 @@ use runs::claim::{Claim, Progressed, Refused, Work};
 use runs::run::Run;
 
 // A refused claim is spent; the refusal stays.
-fn spend_refused<X, C: Claim>(reply: Result<X, Refused<C>>) -> Result<X, Refusal>
-    ensures { result ≡ without_claim reply }
+fn spent<C: Claim>(refused: Refused<C>) -> Refusal
+    ensures { result ≡ refused.refusal }
 {
-    match reply {
-        Ok(x) => Ok(x),
-        Err(Refused { refusal, claim }) => {
-            claim.spend();
-            Err(refusal)
-        }
-    }
+    let Refused { refusal, claim } = refused;
+    claim.spend();
+    refusal
 }
 
-// Ends the open search with nothing adopted; such a search adds no step.
-fn give_up<D: StateModel, C: Claim>(run: &mut Run<D, Tuples>, claim: C) -> Result<usize, Refusal>
-    ensures reply { result ≡ told (abandon_fault (view D.meaning run.old) (C.kind claim) (C.numbered claim)) 0 }
-    ensures run { view D.meaning run.new ≡ unless (abandon_fault (view D.meaning run.old) (C.kind claim) (C.numbered claim)) (view D.meaning run.old) (closed_run (view D.meaning run.old)) }
+// Ends the open search with nothing adopted; such a search adds no steps.
+fn give_up<D: StateModel, C: Claim>(
+    run: &mut Run<D, Tuples>,
+    claim: C,
+) -> Result<Option<usize>, Refusal>
+    ensures reply { result ≡ told (abandon_fault (view run.old) (C.kind claim) (C.numbered claim)) None }
+    ensures run { view run.new ≡ unless (abandon_fault (view run.old) (C.kind claim) (C.numbered claim)) (view run.old) (closed_run (view run.old)) }
 {
-    spend_refused(run.abandon(claim))?;
-    Ok(0)
+    run.abandon(claim).map_err(spent)?;
+    Ok(None)
 }
 
-// Adopts what the open search found, or else abandons it, and tells how many steps came to the plan.
+// Adopts what the open search found, or else abandons it, and tells how many steps came to the plan, if it found any.
 fn settle<D: StateModel>(
     run: &mut Run<D, Tuples>,
     claim: Progressed,
     nodes: &[Node<D::State>],
     plan: &mut [usize],
-) -> Result<usize, Refusal>
-    ensures reply { result ≡ told (settle_fault (view D.meaning run.old) claim nodes.now (length plan.old)) (settled_length (view D.meaning run.old) claim) }
-    ensures run { view D.meaning run.new ≡ unless (settle_fault (view D.meaning run.old) claim nodes.now (length plan.old)) (view D.meaning run.old) (settled_run (view D.meaning run.old) claim nodes.now) }
-    ensures plan { plan.new ≡ unless (settle_fault (view D.meaning run.old) claim nodes.now (length plan.old)) plan.old (settled_plan (view D.meaning run.old) claim nodes.now plan.old) }
+) -> Result<Option<usize>, Refusal>
+    ensures reply { result ≡ told (settle_fault (view run.old) claim nodes.now (length plan.old)) (settled_length (view run.old) claim) }
+    ensures run { view run.new ≡ unless (settle_fault (view run.old) claim nodes.now (length plan.old)) (view run.old) (settled_run (view run.old) claim nodes.now) }
+    ensures plan { plan.new ≡ unless (settle_fault (view run.old) claim nodes.now (length plan.old)) plan.old (settled_plan (view run.old) claim nodes.now plan.old) }
 {
     match claim {
         Progressed::Open(ticket) => give_up(run, ticket),
-        Progressed::Found(find, _) => spend_refused(run.adopt(find, nodes, plan)),
+        Progressed::Found(find, _) => run.adopt(find, nodes, plan).map(Some).map_err(spent),
         Progressed::Exhausted(stub) => give_up(run, stub),
     }
 }
@@ -62,15 +63,15 @@ fn search_here<D: StateModel>(
     nodes: &mut [Node<D::State>],
     marks: &mut [u8],
 ) -> Result<Work, Refusal>
-    ensures reply { result ≡ told (opening_fault atoms width (view D.meaning run.old) (length nodes.old) (length marks.old)) (worked_reply (view D.meaning run.old) (run.old.searches + 1) (ended atoms width (view D.meaning run.old) nodes.old marks.old)) }
-    ensures run { (work : Work) → result ≡ Ok work → SearchedOut atoms width (view D.meaning run.old) (ended atoms width (view D.meaning run.old) nodes.old marks.old) (view D.meaning run.new) }
-    ensures nodes { nodes.new ≡ nodes_after atoms width (view D.meaning run.old) nodes.old marks.old }
-    ensures marks { marks.new ≡ marks_after atoms width (view D.meaning run.old) nodes.old marks.old }
+    ensures reply { result ≡ told (opening_fault atoms width (view run.old) (length nodes.old) (length marks.old)) (worked_reply (view run.old) (run.old.searches + 1) (ended atoms width (view run.old) nodes.old marks.old)) }
+    ensures run { (work : Work) → result ≡ Ok work → SearchedOut atoms width (view run.old) (ended atoms width (view run.old) nodes.old marks.old) (view run.new) }
+    ensures nodes { nodes.new ≡ nodes_after atoms width (view run.old) nodes.old marks.old }
+    ensures marks { marks.new ≡ marks_after atoms width (view run.old) nodes.old marks.old }
 {
     let measure = Tuples::new(atoms, width)?;
     let budget = measure.count();
     let ticket = run.begin(measure, nodes, marks)?;
-    spend_refused(run.work(ticket, budget, nodes, marks))
+    run.work(ticket, budget, nodes, marks).map_err(spent)
 }
 
 // One search of this width and number, and what comes of it.
@@ -83,24 +84,23 @@ pub(crate) fn attempt<D: StateModel>(
     marks: &mut [u8],
     plan: &mut [usize],
 ) -> Result<Row, Refusal>
-    ensures reply { result ≡ told (attempt_fault atoms width (view D.meaning run.old) nodes.old marks.old plan.old) (row_of number width (ended atoms width (view D.meaning run.old) nodes.old marks.old)) }
-    ensures run { (row : Row) → result ≡ Ok row → view D.meaning run.new ≡ run_after atoms width (view D.meaning run.old) (ended atoms width (view D.meaning run.old) nodes.old marks.old) }
-    ensures nodes { nodes.new ≡ nodes_after atoms width (view D.meaning run.old) nodes.old marks.old }
-    ensures marks { marks.new ≡ marks_after atoms width (view D.meaning run.old) nodes.old marks.old }
-    ensures plan { plan.new ≡ plan_after atoms width (view D.meaning run.old) nodes.old marks.old plan.old }
+    ensures reply { result ≡ told (attempt_fault atoms width (view run.old) nodes.old marks.old plan.old) (row_of number width (ended atoms width (view run.old) nodes.old marks.old)) }
+    ensures run { (row : Row) → result ≡ Ok row → view run.new ≡ run_after atoms width (view run.old) (ended atoms width (view run.old) nodes.old marks.old) }
+    ensures nodes { nodes.new ≡ nodes_after atoms width (view run.old) nodes.old marks.old }
+    ensures marks { marks.new ≡ marks_after atoms width (view run.old) nodes.old marks.old }
+    ensures plan { plan.new ≡ plan_after atoms width (view run.old) nodes.old marks.old plan.old }
 {
     let Work {
         claim,
         expanded,
         kept,
     } = search_here(run, atoms, width, nodes, marks)?;
-    let steps = settle(run, claim, nodes, plan)?;
+    let length = settle(run, claim, nodes, plan)?;
     Ok(Row {
         number,
         width,
-        found: steps > 0,
         expanded,
         kept,
-        length: steps,
+        length,
     })
 }

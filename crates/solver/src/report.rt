@@ -1,15 +1,30 @@
 // What the solver tells.
+use std::fmt;
 
-// One search: its number from 1 on, its width, whether it found a way, the expanded and kept states, and the length of the
-// way, 0 without one.
-#[derive(Clone, Copy, PartialEq, Eq, Debug)]
+// One search: its number from 1 on, its width, the expanded and kept states, and the length of the way, if it found one.
+#[derive(Clone, Copy, PartialEq, Eq, Default, Debug)]
 pub struct Row {
     pub number: usize,
     pub width: usize,
-    pub found: bool,
     pub expanded: usize,
     pub kept: usize,
-    pub length: usize,
+    pub length: Option<usize>,
+}
+
+// The number, the width, 1 for a way and else 0, the expanded and kept states, and the way's length, 0 without one.
+impl fmt::Display for Row {
+    fn fmt<W: fmt::Write>(&self, f: &mut fmt::Formatter<W>) -> fmt::Result {
+        let Row {
+            number,
+            width,
+            expanded,
+            kept,
+            length,
+        } = *self;
+        let found = u8::from(length.is_some());
+        let length = length.unwrap_or(0);
+        write!(f, "{number} {width} {found} {expanded} {kept} {length}")
+    }
 }
 
 // Why the solver stopped: the steps lead to a target, or the searches of all three widths of a subproblem are exhausted.

@@ -51,6 +51,7 @@ pub fn solve<D: StateModel + Drop>(
     let mut run: Run<D, Tuples> = Run::new(model, sketch);
     let mut made = 0;
     let mut width = 0;
+    // A `for` over the rows would ask for the target twice, since the last row may be followed by one.
     while !run.at_target() {
         if made >= rows.len() {
             return Err(Refusal::Limit { place: made });
@@ -58,16 +59,14 @@ pub fn solve<D: StateModel + Drop>(
         let row = attempt(&mut run, atoms, made + 1, width, nodes, marks, plan)?;
         rows[made] = row;
         made += 1;
-        width = match width_after(row.found, width) {
-            Some(next) => next,
-            None => {
-                return Ok(Report {
-                    rows: made,
-                    steps: run.plan_length(),
-                    ending: Ending::ThirdStub,
-                });
-            }
+        let Some(next) = width_after(row.length.is_some(), width) else {
+            return Ok(Report {
+                rows: made,
+                steps: run.plan_length(),
+                ending: Ending::ThirdStub,
+            });
         };
+        width = next;
     }
     Ok(Report {
         rows: made,

@@ -10,26 +10,10 @@ use sketch::rule::{Condition, Effect, Entry, Rule};
 use sketch::sketch::Sketch;
 use std::test::Fail;
 
-const UNUSED: Row = Row {
-    number: 0,
-    width: 0,
-    found: false,
-    expanded: 0,
-    kept: 0,
-    length: 0,
-};
-
-fn only(atom: u8) -> AtomSet {
-    let mut atoms = AtomSet::empty();
-    atoms.insert(atom);
-    atoms
-}
-
 fn adding(atom: u8) -> Action {
     Action {
-        preconditions: AtomSet::empty(),
-        additions: only(atom),
-        deletions: AtomSet::empty(),
+        additions: AtomSet::of(&[atom]),
+        ..Action::default()
     }
 }
 
@@ -39,8 +23,7 @@ fn solve_two(
     plan: &mut [usize],
     rows: &mut [Row],
 ) -> Result<Report, Refusal> {
-    let mut both = only(0);
-    both.insert(1);
+    let both = AtomSet::of(&[0, 1]);
     let model = Strips::new(2, start, both, table)?;
     let mut falls = Rule::blank();
     falls.entries[0] = Entry {
@@ -64,7 +47,7 @@ fn solve_two(
 #[test]
 fn one_atom_after_the_other(rt: HostRuntime) -> Result<(), Fail> {
     let mut plan = [9; 3];
-    let mut rows = [UNUSED; 3];
+    let mut rows = [Row::default(); 3];
     let report = solve_two(
         AtomSet::empty(),
         &[adding(0), adding(1)],
@@ -74,10 +57,9 @@ fn one_atom_after_the_other(rt: HostRuntime) -> Result<(), Fail> {
     let found = Row {
         number: 1,
         width: 0,
-        found: true,
         expanded: 1,
         kept: 1,
-        length: 1,
+        length: Some(1),
     };
     let ending = Ending::AtTarget;
     assert_eq!(rt;
@@ -90,7 +72,7 @@ fn one_atom_after_the_other(rt: HostRuntime) -> Result<(), Fail> {
     );
     assert_eq!(rt; rows[0], found);
     assert_eq!(rt; rows[1], Row { number: 2, ..found });
-    assert_eq!(rt; rows[2], UNUSED);
+    assert_eq!(rt; rows[2], Row::default());
     assert!(rt; plan[0] == 0 && plan[1] == 1 && plan[2] == 9);
     Ok(())
 }
@@ -99,7 +81,7 @@ fn one_atom_after_the_other(rt: HostRuntime) -> Result<(), Fail> {
 #[test]
 fn a_third_stub(rt: HostRuntime) -> Result<(), Fail> {
     let mut plan = [9; 3];
-    let mut rows = [UNUSED; 4];
+    let mut rows = [Row::default(); 4];
     let report = solve_two(AtomSet::empty(), &[adding(0)], &mut plan, &mut rows)?;
     let ending = Ending::ThirdStub;
     assert_eq!(rt;
@@ -110,7 +92,12 @@ fn a_third_stub(rt: HostRuntime) -> Result<(), Fail> {
             ending,
         }
     );
-    assert!(rt; rows[0].found && !rows[1].found && !rows[2].found && !rows[3].found);
+    assert!(rt;
+        rows[0].length.is_some()
+            && rows[1].length.is_none()
+            && rows[2].length.is_none()
+            && rows[3].length.is_none()
+    );
     assert!(rt; rows[1].width == 0 && rows[2].width == 1 && rows[3].width == 2);
     assert!(rt; plan[0] == 0 && plan[1] == 9);
     Ok(())
@@ -120,8 +107,7 @@ fn a_third_stub(rt: HostRuntime) -> Result<(), Fail> {
 #[test]
 fn at_the_limits(rt: HostRuntime) -> Result<(), Fail> {
     let table = [adding(0), adding(1)];
-    let mut both = only(0);
-    both.insert(1);
+    let both = AtomSet::of(&[0, 1]);
     let ending = Ending::AtTarget;
     let report = solve_two(both, &table, &mut [], &mut [])?;
     assert_eq!(rt;
@@ -132,11 +118,11 @@ fn at_the_limits(rt: HostRuntime) -> Result<(), Fail> {
             ending,
         }
     );
-    let mut rows = [UNUSED; 2];
-    let few = solve_two(only(0), &table, &mut [9; 2], &mut []).err();
+    let mut rows = [Row::default(); 2];
+    let few = solve_two(AtomSet::of(&[0]), &table, &mut [9; 2], &mut []).err();
     assert_eq!(rt; few, Some(Refusal::Limit { place: 0 }));
     let full = solve_two(AtomSet::empty(), &table, &mut [9; 1], &mut rows).err();
     assert_eq!(rt; full, Some(Refusal::PlanFull));
-    assert!(rt; rows[0].found && rows[1] == UNUSED);
+    assert!(rt; rows[0].length.is_some() && rows[1] == Row::default());
     Ok(())
 }

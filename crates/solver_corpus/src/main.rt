@@ -2,8 +2,7 @@
 // that text, and an empty line.
 #![tactic(auto)]
 
-use anyhow::anyhow;
-use cases::{Case, next_case};
+use cases::{Case, Cases};
 use report::{PLACES, ROWS, blank_row, print_result, solve_text};
 use std::io::Read;
 
@@ -18,20 +17,11 @@ fn print_case(rt: &HostRuntime, case: &Case) -> anyhow::Result<()> {
     Ok(())
 }
 
-fn print_cases(rt: &HostRuntime, corpus: &[u8]) -> anyhow::Result<()> {
-    let mut rest = corpus;
-    while let Some(case) = next_case(rest) {
-        print_case(rt, &case)?;
-        rest = case.rest;
-    }
-    if !rest.is_empty() {
-        return Err(anyhow!("the corpus is damaged"));
-    }
-    Ok(())
-}
-
 fn main(rt: HostRuntime) -> anyhow::Result<()> {
     let mut corpus = Vec::new(rt.alloc());
     rt.stdin().read_to_end(&mut corpus)?;
-    print_cases(&rt, &corpus)
+    for case in Cases::new(&corpus) {
+        print_case(&rt, &case?)?;
+    }
+    Ok(())
 }

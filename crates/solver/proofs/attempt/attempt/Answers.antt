@@ -1,4 +1,4 @@
-use Rattle.std.proofs.Common.{◌≡◌, ltb, length, Some, Ok, Err, sym, refl, ap, ◌∙◌}
+use Rattle.std.proofs.Common.{◌≡◌, length, Some, Ok, Err, sym, ap, ◌∙◌}
 use Rattle.std.proofs.lemmas.Result.{err_from_is_err_and}
 use Rattle.planner.specs.Widths.{first_fault}
 use Rattle.runs.specs.Run.{view}
@@ -11,7 +11,7 @@ use Rattle.solver.proofs.attempt.attempt.Goals as goal
 pub returns-in_err-claim : goal.returns-in_err-claim
 returns-in_err-claim g c =
     let p = err_from_is_err_and c.from_residual.result c.from_residual.ensures.1 in
-    let v = view g.D.StateModel.meaning c.args.run.now in
+    let v = view c.args.run.now in
     let N = c.args.atoms in
     let k = c.args.width in
     let nodes = c.args.nodes.now in
@@ -31,25 +31,25 @@ returns-in_err-claim g c =
     }
 
 -- the way that was found was not adopted
-pub returns-in_err-steps : goal.returns-in_err-steps
-returns-in_err-steps g c =
-    let p = err_from_is_err_and c.from_residual-in_err-steps.result c.from_residual-in_err-steps.ensures.1 in
-    let v = view g.D.StateModel.meaning c.args.run.now in
+pub returns-in_err-length : goal.returns-in_err-length
+returns-in_err-length g c =
+    let p = err_from_is_err_and c.from_residual-in_err-length.result c.from_residual-in_err-length.ensures.1 in
+    let v = view c.args.run.now in
     let N = c.args.atoms in
     let k = c.args.width in
     let nodes = c.args.nodes.now in
     let marks = c.args.marks.now in
     let plan = c.args.plan.now in
-    let e = c.in_err-steps.field-0.0 in
+    let e = c.in_err-length.field-0.0 in
     let end = ended N k v nodes marks in
     let work = c.in_ok-claim.field-0 in
-    let w = view g.D.StateModel.meaning c.search_here.new.run in
+    let w = view c.search_here.new.run in
     let done = told_given _ _ work (sym c.search_here.ensures.reply ∙ c.in_ok-claim.was) in
     let X = c.search_here.ensures.run work c.in_ok-claim.was in
     let fault : attempt_fault N k v nodes marks plan ≡ Some e =
     settle_refused N k v nodes marks plan done.0 w X work.claim (ap (λ x. x.claim) done.1) c.search_here.new.nodes c.search_here.ensures.nodes _ e
-    c.settle.ensures.reply c.in_err-steps.was in
-    let is : c.from_residual-in_err-steps.result ≡ Err e = cc in
+    c.settle.ensures.reply c.in_err-length.was in
+    let is : c.from_residual-in_err-length.result ≡ Err e = cc in
     record {
       reply = is ∙ sym (ap (λ f. told f (row_of c.args.number k end)) fault);
       run = λ row ok. absurd (not_both _ e row is ok);
@@ -61,7 +61,7 @@ returns-in_err-steps g c =
 
 pub returns : goal.returns
 returns g c =
-    let v = view g.D.StateModel.meaning c.args.run.now in
+    let v = view c.args.run.now in
     let N = c.args.atoms in
     let k = c.args.width in
     let nodes = c.args.nodes.now in
@@ -69,15 +69,15 @@ returns g c =
     let plan = c.args.plan.now in
     let end = ended N k v nodes marks in
     let work = c.in_ok-claim.field-0 in
-    let w = view g.D.StateModel.meaning c.search_here.new.run in
+    let w = view c.search_here.new.run in
     let done = told_given _ _ work (sym c.search_here.ensures.reply ∙ c.in_ok-claim.was) in
     let X = c.search_here.ensures.run work c.in_ok-claim.was in
-    let n = c.in_ok-steps.steps in
+    let n = c.in_ok-length.length in
     let given = settle_given N k v nodes marks plan done.0 w X work.claim (ap (λ x. x.claim) done.1) c.search_here.new.nodes
-    c.search_here.ensures.nodes _ n c.settle.ensures.reply c.in_ok-steps.was in
+    c.search_here.ensures.nodes _ n c.settle.ensures.reply c.in_ok-length.was in
     record {
       reply =
-          ap Ok (attempt_row end c.args.number k n (ltb 0 n) work.expanded work.kept (ap (λ x. x.expanded) done.1) (ap (λ x. x.kept) done.1) given.1 refl)
+          ap Ok (attempt_row end c.args.number k n work.expanded work.kept (ap (λ x. x.expanded) done.1) (ap (λ x. x.kept) done.1) given.1)
           ∙ sym (ap (λ f. told f (row_of c.args.number k end)) given.0);
       run = λ _ _.
           settle_run N k v nodes marks plan done.0 w X work.claim (ap (λ x. x.claim) done.1) c.search_here.new.nodes

@@ -1,16 +1,16 @@
-use Rattle.std.proofs.Common.{◌≡◌, ◌+◌, length, Some, Err, sym, ap, ◌∙◌, arith}
+use Rattle.std.proofs.Common.{◌≡◌, ◌+◌, length, Some, Err, sym, ap, ◌∙◌, arith, rules}
 use Rattle.std.proofs.lemmas.Result.{err_from_is_err_and}
 use Rattle.runs.specs.Run.{view}
 use Rattle.runs.specs.Calls.{told, worked_reply}
 use Rattle.solver.specs.Attempt.{opening_fault, ended}
-use Rattle.solver.proofs.Attempting.{told_refused, told_given, not_both, refused_list, opening_is, search_reply, search_list, search_run}
+use Rattle.solver.proofs.Attempting.{spent_told, told_refused, told_given, not_both, refused_list, opening_is, search_reply, search_list, search_run}
 use Rattle.solver.proofs.attempt.search_here.Goals as goal
 
 -- begin was refused
 pub returns-in_err-ticket : goal.returns-in_err-ticket
 returns-in_err-ticket g c =
     let p = err_from_is_err_and c.from_residual-in_err-ticket.result c.from_residual-in_err-ticket.ensures.1 in
-    let v = view g.D.StateModel.meaning c.args.run.now in
+    let v = view c.args.run.now in
     let N = c.args.atoms in
     let k = c.args.width in
     let nodes = c.args.nodes.now in
@@ -30,8 +30,8 @@ returns-in_err-ticket g c =
 
 pub returns : goal.returns
 returns g c =
-    let v = view g.D.StateModel.meaning c.args.run.now in
-    let w = view g.D.StateModel.meaning c.begin.new.self in
+    let v = view c.args.run.now in
+    let w = view c.begin.new.self in
     let N = c.args.atoms in
     let k = c.args.width in
     let nodes = c.args.nodes.now in
@@ -47,7 +47,8 @@ returns g c =
     record {
       reply =
           search_reply v N k m made.1 made.2 made.0 nodes marks given.0 w t states table c.count-budget.result c.begin.ensures.run given.1
-          c.begin.ensures.nodes c.begin.ensures.marks c.count-budget.ensures same_states same_table _ _ c.work.ensures.reply c.spend_refused.ensures;
+          c.begin.ensures.nodes c.begin.ensures.marks c.count-budget.ensures same_states same_table _
+          (spent_told _ (λ e d q. search rules) _ t _ _ _ c.work.ensures.reply c.map_err.ensures.cases);
       run = λ _ _.
           search_run v N k m made.1 made.2 made.0 nodes marks given.0 w t states table c.count-budget.result c.begin.ensures.run given.1
           c.begin.ensures.nodes c.begin.ensures.marks c.count-budget.ensures same_states same_table _ c.work.ensures.run;

@@ -2,9 +2,9 @@ use Rattle.std.proofs.Common.{◌≡◌, suc, ◌+◌, ◌-◌, ◌≤◌, true,
 use Rattle.std.proofs.lemmas.Result.{err_from_is_err_and}
 use Rattle.domain.specs.declared.refusal.Refusal.TheVariants.{Limit}
 use Rattle.runs.specs.Run.{view}
-use Rattle.solver.specs.Solve.{memory, answer, report, next_width, fault_at, found_at, view_after, memory_after, solve_from, solved}
+use Rattle.solver.specs.Solve.{memory, answer, report, next_width, at_its_end, fault_at, found_at, view_after, memory_after, solve_from, solved}
 use Rattle.solver.specs.declared.report.Ending.TheVariants.{AtTarget, ThirdStub}
-use Rattle.solver.proofs.Attempting.{told_refused, told_given, not_both, cong4}
+use Rattle.solver.proofs.Attempting.{told_refused, told_given, not_both, cong4, row_found}
 use Rattle.solver.proofs.Reporting.{said}
 use Rattle.solver.proofs.Solving.{ends_at_target, ends_without_row, ends_refused, ends_with_stub, goes_on_by, row_written, row_left}
 use Rattle.solver.proofs.solve.solve.Goals as goal
@@ -14,7 +14,7 @@ pub returns-then-made-rows : goal.returns-then-made-rows
 returns-then-made-rows g c =
     let P = g.D.StateModel.meaning c.args.model in
     let l = c.loop-run in
-    let v = view g.D.StateModel.meaning l.run in
+    let v = view l.run in
     let before = memory c.args.nodes.now c.args.marks.now c.args.plan.now c.args.rows.now in
     let mem = memory l.nodes l.marks l.plan l.rows in
     let start = ap₂ (λ a w. solve_from a (length c.args.rows.now) 0 w before) (sym c.atoms-atoms.ensures) (sym c.new-run.ensures.value) in
@@ -38,7 +38,7 @@ returns-in_err-row g c =
     let P = g.D.StateModel.meaning c.args.model in
     let l = c.loop-run in
     let N = c.atoms-atoms.result in
-    let v = view g.D.StateModel.meaning l.run in
+    let v = view l.run in
     let before = memory c.args.nodes.now c.args.marks.now c.args.plan.now c.args.rows.now in
     let mem = memory l.nodes l.marks l.plan l.rows in
     let off : v.problem.target v.current ≡ false = sym c.loop-run-test.ensures in
@@ -59,12 +59,12 @@ returns-in_err-row g c =
     }
 
 -- the third search in turn was exhausted
-pub returns-in-None : goal.returns-in-None
-returns-in-None g c =
+pub returns-in_default : goal.returns-in_default
+returns-in_default g c =
     let P = g.D.StateModel.meaning c.args.model in
     let l = c.loop-run in
     let N = c.atoms-atoms.result in
-    let v = view g.D.StateModel.meaning l.run in
+    let v = view l.run in
     let before = memory c.args.nodes.now c.args.marks.now c.args.plan.now c.args.rows.now in
     let mem = memory l.nodes l.marks l.plan l.rows in
     let off : v.problem.target v.current ≡ false = sym c.loop-run-test.ensures in
@@ -74,7 +74,7 @@ returns-in-None g c =
     let made = told_given _ _ row (sym c.attempt.ensures.reply ∙ c.in_ok-row.was) in
     let stands = c.attempt.ensures.run row c.in_ok-row.was in
     let written = row_written N l.width v mem l.made row l.invariant.1 made.1 made.0 in
-    let last : next_width (found_at N l.width v mem) l.width ≡ None = ap (λ r. next_width r.found l.width) (sym made.1) ∙ sym c.in-None.ensures in
+    let last : next_width (found_at N l.width v mem) l.width ≡ None = ap (λ b. next_width b l.width) (sym (c.is_some.ensures ∙ row_found (at_its_end N l.width v mem) (l.made + 1) l.width row made.1)) ∙ sym c.in_default.ensures in
     let done : solved P c.args.sketch before ≡ answer (Ok (report (view_after N l.width v mem) ThirdStub)) (memory_after N l.width v mem) =
     start ∙ l.invariant.0 ∙ ends_with_stub N l.width v mem off (length l.rows - l.made) (length l.rows - (l.made + 1)) free made.0 last in
     let ends = ap₂ (λ a b. Ok (record { rows = a; steps = b; ending = ThirdStub })) (ap (λ n. n + 1) (sym l.invariant.1)) (c.plan_length.ensures ∙ ap (λ w. w.length) stands) in
@@ -92,7 +92,7 @@ loop-run-preserved g c =
     let P = g.D.StateModel.meaning c.args.model in
     let l = c.loop-run in
     let N = c.atoms-atoms.result in
-    let v = view g.D.StateModel.meaning l.run in
+    let v = view l.run in
     let before = memory c.args.nodes.now c.args.marks.now c.args.plan.now c.args.rows.now in
     let mem = memory l.nodes l.marks l.plan l.rows in
     let off : v.problem.target v.current ≡ false = sym c.loop-run-test.ensures in
@@ -102,7 +102,7 @@ loop-run-preserved g c =
     let stands = c.attempt.ensures.run row c.in_ok-row.was in
     let written = row_written N l.width v mem l.made row l.invariant.1 made.1 made.0 in
     let j = c.in-Some.next in
-    let next : next_width (found_at N l.width v mem) l.width ≡ Some j = ap (λ r. next_width r.found l.width) (sym made.1) ∙ sym c.in-Some.ensures in
+    let next : next_width (found_at N l.width v mem) l.width ≡ Some j = ap (λ b. next_width b l.width) (sym (c.is_some.ensures ∙ row_found (at_its_end N l.width v mem) (l.made + 1) l.width row made.1)) ∙ sym c.in-Some.ensures in
     let same : length (set l.rows l.made row) ≡ length l.rows = length-set l.rows l.made row in
     let room : l.made + 1 ≤ length (set l.rows l.made row) = omega arith in (
       l.invariant.0 ∙ goes_on_by N l.width v mem off (length l.rows - l.made) (length l.rows - (l.made + 1)) free made.0 j next
@@ -117,7 +117,7 @@ pub returns : goal.returns
 returns g c =
     let P = g.D.StateModel.meaning c.args.model in
     let l = c.loop-run in
-    let v = view g.D.StateModel.meaning l.run in
+    let v = view l.run in
     let before = memory c.args.nodes.now c.args.marks.now c.args.plan.now c.args.rows.now in
     let mem = memory l.nodes l.marks l.plan l.rows in
     let start = ap₂ (λ a w. solve_from a (length c.args.rows.now) 0 w before) (sym c.atoms-atoms.ensures) (sym c.new-run.ensures.value) in
