@@ -1,10 +1,7 @@
 // A lent list held in an array of its own.
 ghost use Rattle.std.specs.Prelude.{◌≡◌, ◌≤◌, length};
 
-pub use crate::held::copy::hold_first;
 use std::alloc::AllocError;
-
-mod copy;
 
 // At most N items, which stand at the beginning of the array.
 #[derive(Debug)]
