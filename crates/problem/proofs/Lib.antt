@@ -1,3 +1,4 @@
+pub mod Blanks
 pub mod Caps
 pub mod Digits
 pub mod Firsts

@@ -10,7 +10,7 @@ use Rattle.problem.specs.Numeral.{numeral, judged, flaw_of, letter}
 use Rattle.problem.specs.Reader.{names_of, closed, valued, inside, step, step_by}
 use Rattle.problem.specs.Role.{role_named}
 use Rattle.problem.specs.Rows.{truth, meant, checked_entry, second_kind, atom_row, action_row, feature_row, rule_row}
-use Rattle.problem.specs.Tables.{both_named}
+use Rattle.problem.specs.Tables.{feature_count, both_named}
 use Rattle.problem.specs.declared.fault.LineFault.{LineFault}
 use Rattle.problem.specs.declared.fault.NumberFlaw.{NumberFlaw}
 use Rattle.problem.specs.declared.fault.Table.{Table}
@@ -117,9 +117,9 @@ at_valued s Features n bs =
     at_cond n (ltb t.2 s.atoms.count) _ _ (at_cond n (ltb t.0 8) _ _ tt refl) refl))
     λ row. tt
 at_valued s Rules n bs =
-    at_then n (rule_row s.features.count s.rules n bs) _ (at_then n (twice_lettered n bs) _ (at_twice n bs) λ t.
+    at_then n (rule_row (feature_count s.features) s.rules n bs) _ (at_then n (twice_lettered n bs) _ (at_twice n bs) λ t.
     at_cond n (both_named s.rules t.0 t.1) _ _ refl
-    (at_cond n (ltb t.1 s.features.count) _ _
+    (at_cond n (ltb t.1 (feature_count s.features)) _ _
     (at_then n (checked_entry n t.2 t.3) _ (at_entry n t.2 t.3) λ entry. at_cond n (ltb t.0 16) _ _ tt refl) refl))
     λ row. tt
 

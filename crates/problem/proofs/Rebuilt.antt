@@ -10,7 +10,7 @@ use Rattle.problem.specs.Lines.{fields, three, four, preceded}
 use Rattle.problem.specs.Numeral.{digits_value, flaw_of, judged, numeral, letter}
 use Rattle.problem.specs.Reader.{valued, after_action, after_feature, after_rule}
 use Rattle.problem.specs.Rows.{meant, checked_action, second_kind, checked_feature, checked_entry, checked_rule, action_row, feature_row, rule_row}
-use Rattle.problem.specs.Tables.{other_kind, both_named}
+use Rattle.problem.specs.Tables.{feature_count, other_kind, both_named}
 use Rattle.problem.specs.declared.fault.LineFault.{LineFault}
 use Rattle.problem.specs.declared.fault.LineFault.TheVariants.{SecondKind, NamedTwice, NoSuchAtom, NoSuchFeature, Full}
 use Rattle.problem.specs.declared.fault.NumberFlaw.{NumberFlaw}
@@ -126,9 +126,9 @@ feature_there s table n k bs t row form line free =
     ap (λ r. and_then (and_then r (checked_feature s.atoms.count s.features k)) (after_feature s)) (lettered_again n k bs t form)
     ∙ ap (λ r. and_then r (after_feature s)) (feature_again s.atoms.count table s.features n k t row line free)
 
-pub rule_there : (s : Reader) (table : RuleTable) (n k : ℕ) (bs : List ℕ) (t : ℕ × ℕ × ℕ × ℕ) (row : RuleRow) → twice_lettered n bs ≡ Ok t → RuleLine s.features.count table n t row
+pub rule_there : (s : Reader) (table : RuleTable) (n k : ℕ) (bs : List ℕ) (t : ℕ × ℕ × ℕ × ℕ) (row : RuleRow) → twice_lettered n bs ≡ Ok t → RuleLine (feature_count s.features) table n t row
     → both_named s.rules t.0 t.1 ≡ false → valued s Rules k bs ≡ after_rule s row
 unfolding rule_row
 rule_there s table n k bs t row form line free =
-    ap (λ r. and_then (and_then r (checked_rule s.features.count s.rules k)) (after_rule s)) (twice_again n k bs t form)
-    ∙ ap (λ r. and_then r (after_rule s)) (rule_again s.features.count table s.rules n k t row line free)
+    ap (λ r. and_then (and_then r (checked_rule (feature_count s.features) s.rules k)) (after_rule s)) (twice_again n k bs t form)
+    ∙ ap (λ r. and_then r (after_rule s)) (rule_again (feature_count s.features) table s.rules n k t row line free)

@@ -1,15 +1,16 @@
 -- The tables of features and rules keep their size, and what one row says of the next. Assumes nothing.
-use Rattle.std.proofs.Common.{◌≡◌, ℕ, ◌<◌, Bool, true, false, not, ◌&&◌, eqb, ltb, List, [], ◌∷◌, length, get_or, set, replicate, Some, Ok, sym, refl, ap, ◌∙◌, subst, ⊎_elim, arith}
+use Rattle.std.proofs.Common.{◌≡◌, ℕ, ◌<◌, true, false, not, ◌&&◌, eqb, ltb, List, [], ◌∷◌, length, get_or, set, replicate, Some, None, Option, is_some, Ok, sym, refl, ap, ◌∙◌, subst, ⊎_elim, arith}
 use Rattle.std.specs.Str.{bytes_eq}
 use Rattle.std.proofs.lemmas.List.{length-set, get_or-set_same, get_or-set_other, get_or-replicate}
 use Rattle.std.proofs.lemmas.Bool.{cases_eq, lt-ltb, eq-eqb, eqb-true, not-false, not_from_true, both_ways}
 use Rattle.domain.specs.Atoms.{with_atom}
-use Rattle.domain.specs.Strips.{bare}
 use Rattle.sketch.specs.Kind.{kind_char, kind_named}
+use Rattle.sketch.specs.declared.feature.Feature.{Feature}
 use Rattle.sketch.specs.declared.feature.Kind.{Kind}
 use Rattle.sketch.specs.declared.feature.Kind.TheVariants.{Boolean, TrueCount, FalseCount}
+use Rattle.sketch.specs.declared.rule.Entry.{Entry}
 use Rattle.problem.specs.Reader.{Step, names_of, after_table, wanting, closed, valued, step, step_by, start_of}
-use Rattle.problem.specs.Tables.{feature_at, other_kind, both_named, feature_added, rule_added}
+use Rattle.problem.specs.Tables.{feature_of, unlike, other_kind, both_named, feature_added, rule_added}
 use Rattle.problem.specs.declared.fault.Table.{Table}
 use Rattle.problem.specs.declared.fault.Table.TheVariants.{Atoms, Actions, Features, Rules}
 use Rattle.problem.specs.declared.reader.Reader.{Reader}
@@ -24,12 +25,11 @@ use Rattle.problem.proofs.Sounds.{atom_step, action_step, feature_step, rule_ste
 
 -- the sizes of the tables
 pub record SizedFeatures (t : FeatureTable) : Type 0 where
-  pub flags : length t.named ≡ 8
   pub all : length t.features ≡ 8
 
 pub record SizedRules (t : RuleTable) : Type 0 where
-  pub all : length t.named ≡ 16
-  pub each : (i : ℕ) → i < 16 → length (get_or t.named i []) ≡ 8
+  pub all : length t.entries ≡ 16
+  pub each : (i : ℕ) → i < 16 → length (get_or t.entries i []) ≡ 8
 
 pub record Shaped (s : Reader) : Type 0 where
   pub of_features : SizedFeatures s.features
@@ -37,26 +37,26 @@ pub record Shaped (s : Reader) : Type 0 where
 
 pub shaped_start : (limit : ℕ) → Shaped (start_of limit)
 shaped_start limit = record {
-  of_features = record { flags = refl; all = refl };
-  of_rules = record { all = refl; each = λ i h. ap length (get_or-replicate 16 i (replicate 8 false) [] h) };
+  of_features = record { all = refl };
+  of_rules = record { all = refl; each = λ i h. ap length (get_or-replicate 16 i (replicate 8 None) [] h) };
 }
 
 sized_feature : (t : FeatureTable) (row : FeatureRow) → SizedFeatures t → SizedFeatures (feature_added t row)
-sized_feature t row h = record { flags = length-set t.named _ _ ∙ h.flags; all = length-set t.features _ _ ∙ h.all }
+sized_feature t row h = record { all = length-set t.features _ _ ∙ h.all }
 
 sized_rule : (t : RuleTable) (row : RuleRow) → row.rule < 16 → SizedRules t → SizedRules (rule_added t row)
-sized_rule t row low h = record { all = length-set t.named _ _ ∙ h.all; each = each }
+sized_rule t row low h = record { all = length-set t.entries _ _ ∙ h.all; each = each }
   where
-    paired : List Bool
-    paired = set (get_or t.named row.rule []) row.feature true
+    paired : List (Option Entry)
+    paired = set (get_or t.entries row.rule []) row.feature (Some row.entry)
 
-    here : length (get_or (set t.named row.rule paired) row.rule []) ≡ 8
-    here = ap length (get_or-set_same t.named row.rule paired [] (omega (arith, h.all))) ∙ length-set (get_or t.named row.rule []) row.feature true ∙ h.each row.rule low
+    here : length (get_or (set t.entries row.rule paired) row.rule []) ≡ 8
+    here = ap length (get_or-set_same t.entries row.rule paired [] (omega (arith, h.all))) ∙ length-set (get_or t.entries row.rule []) row.feature (Some row.entry) ∙ h.each row.rule low
 
-    each : (i : ℕ) → i < 16 → length (get_or (set t.named row.rule paired) i []) ≡ 8
+    each : (i : ℕ) → i < 16 → length (get_or (set t.entries row.rule paired) i []) ≡ 8
     each i l =
-        ⊎_elim (λ e. subst (λ j. length (get_or (set t.named row.rule paired) j []) ≡ 8) (sym e) here)
-        (λ apart. ap length (get_or-set_other t.named row.rule i paired [] apart) ∙ h.each i l)
+        ⊎_elim (λ e. subst (λ j. length (get_or (set t.entries row.rule paired) j []) ≡ 8) (sym e) here)
+        (λ apart. ap length (get_or-set_other t.entries row.rule i paired [] apart) ∙ h.each i l)
         (cases_eq i row.rule)
 
 shaped_wanting : (s : Reader) (w : Wanted) → Shaped s → Shaped (wanting s w)
@@ -99,18 +99,19 @@ same_kind k l e = let same : Some k ≡ Some l = sym (kind_back k) ∙ ap kind_n
 
 -- two rows of features, of which the second comes after the first, can come the other way round
 module _ (t : FeatureTable) (sized : SizedFeatures t) where
+  abbrev given : FeatureRow → Option Feature
+  given q = Some (record { kind = q.kind; atoms = with_atom (feature_of (get_or t.features q.feature None)).atoms q.atom })
+
   other_here : (q : FeatureRow) (k : Kind) → q.feature < 8 → other_kind (feature_added t q) q.feature k ≡ not (eqb (kind_char q.kind) (kind_char k))
   other_here q k low =
       let a = lt-ltb q.feature 8 low in
-      let b = get_or-set_same t.named q.feature true false (omega (arith, sized.flags)) in
-      let c = get_or-set_same t.features q.feature (record { kind = q.kind; atoms = with_atom (feature_at t.features q.feature).atoms q.atom }) (record { kind = Boolean; atoms = bare }) (omega (arith, sized.all)) in
-      λ i. a i && (b i && not (eqb (kind_char (c i).kind) (kind_char k)))
+      let c = get_or-set_same t.features q.feature (given q) None (omega (arith, sized.all)) in
+      λ i. a i && unlike k (c i)
 
   other_apart : (q : FeatureRow) (f : ℕ) (k : Kind) → (f ≡ q.feature → ⊥) → other_kind (feature_added t q) f k ≡ other_kind t f k
   other_apart q f k apart =
-      let b = get_or-set_other t.named q.feature f true false apart in
-      let c = get_or-set_other t.features q.feature f (record { kind = q.kind; atoms = with_atom (feature_at t.features q.feature).atoms q.atom }) (record { kind = Boolean; atoms = bare }) apart in
-      λ i. ltb f 8 && (b i && not (eqb (kind_char (c i).kind) (kind_char k)))
+      let c = get_or-set_other t.features q.feature f (given q) None apart in
+      λ i. ltb f 8 && unlike k (c i)
 
   pub features_free : (q r : FeatureRow) → q.feature < 8 → other_kind t q.feature q.kind ≡ false → other_kind (feature_added t q) r.feature r.kind ≡ false
       → (other_kind t r.feature r.kind ≡ false) × (other_kind (feature_added t r) q.feature q.kind ≡ false) × (q.feature ≡ r.feature → q.kind ≡ r.kind)
@@ -141,26 +142,26 @@ module _ (t : FeatureTable) (sized : SizedFeatures t) where
 
 -- and two rows of rules
 module _ (t : RuleTable) (sized : SizedRules t) where
-  pair_here : (q : RuleRow) → q.rule < 16 → get_or (rule_added t q).named q.rule [] ≡ set (get_or t.named q.rule []) q.feature true
-  pair_here q low = get_or-set_same t.named q.rule _ [] (omega (arith, sized.all))
+  pair_here : (q : RuleRow) → q.rule < 16 → get_or (rule_added t q).entries q.rule [] ≡ set (get_or t.entries q.rule []) q.feature (Some q.entry)
+  pair_here q low = get_or-set_same t.entries q.rule _ [] (omega (arith, sized.all))
 
   both_here : (q : RuleRow) → q.rule < 16 → q.feature < 8 → both_named (rule_added t q) q.rule q.feature ≡ true
   both_here q low small =
       let a = lt-ltb q.rule 16 low in
       let b = lt-ltb q.feature 8 small in
-      let c = ap (λ row. get_or row q.feature false) (pair_here q low) ∙ get_or-set_same (get_or t.named q.rule []) q.feature true false (omega (arith, sized.each q.rule low)) in
+      let c = ap (λ row. is_some (get_or row q.feature None)) (pair_here q low) ∙ ap is_some (get_or-set_same (get_or t.entries q.rule []) q.feature (Some q.entry) None (omega (arith, sized.each q.rule low))) in
       λ i. a i && (b i && c i)
 
   both_apart : (q : RuleRow) (r f : ℕ) → q.rule < 16 → (q.rule ≡ r → q.feature ≡ f → ⊥) → both_named (rule_added t q) r f ≡ both_named t r f
-  both_apart q r f low apart = ap (λ b. ltb r 16 && (ltb f 8 && b)) (⊎_elim same other (cases_eq q.rule r))
+  both_apart q r f low apart = ap (λ o. ltb r 16 && (ltb f 8 && is_some o)) (⊎_elim same other (cases_eq q.rule r))
     where
-      same : q.rule ≡ r → get_or (get_or (rule_added t q).named r []) f false ≡ get_or (get_or t.named r []) f false
+      same : q.rule ≡ r → get_or (get_or (rule_added t q).entries r []) f None ≡ get_or (get_or t.entries r []) f None
       same e =
-          subst (λ k. get_or (get_or (rule_added t q).named k []) f false ≡ get_or (get_or t.named k []) f false) e
-          (ap (λ row. get_or row f false) (pair_here q low) ∙ get_or-set_other (get_or t.named q.rule []) q.feature f true false (λ g. apart e (sym g)))
+          subst (λ k. get_or (get_or (rule_added t q).entries k []) f None ≡ get_or (get_or t.entries k []) f None) e
+          (ap (λ row. get_or row f None) (pair_here q low) ∙ get_or-set_other (get_or t.entries q.rule []) q.feature f (Some q.entry) None (λ g. apart e (sym g)))
 
-      other : (q.rule ≡ r → ⊥) → get_or (get_or (rule_added t q).named r []) f false ≡ get_or (get_or t.named r []) f false
-      other d = ap (λ row. get_or row f false) (get_or-set_other t.named q.rule r _ [] (λ g. d (sym g)))
+      other : (q.rule ≡ r → ⊥) → get_or (get_or (rule_added t q).entries r []) f None ≡ get_or (get_or t.entries r []) f None
+      other d = ap (λ row. get_or row f None) (get_or-set_other t.entries q.rule r _ [] (λ g. d (sym g)))
 
   pub rules_free : (q r : RuleRow) → q.rule < 16 → r.rule < 16 → q.feature < 8 → both_named t q.rule q.feature ≡ false → both_named (rule_added t q) r.rule r.feature ≡ false
       → (both_named t r.rule r.feature ≡ false) × (both_named (rule_added t r) q.rule q.feature ≡ false) × (q.rule ≡ r.rule → q.feature ≡ r.feature → ⊥)

@@ -1,5 +1,5 @@
 -- The rules of a good text name only its features, so that only the sieve can refuse them. Assumes nothing.
-use Rattle.std.proofs.Common.{◌≡◌, ℕ, ◌<◌, ◌≤◌, Bool, true, false, cond, not, eqb, ltb, List, [], ◌∷◌, length, set, replicate, Some, None, Ok, Err, Option, Result, sym, refl, ap, ◌∙◌, subst, ⊎_elim, arith, length-take}
+use Rattle.std.proofs.Common.{◌≡◌, ℕ, ◌<◌, ◌≤◌, Bool, true, false, cond, not, eqb, ltb, List, [], ◌∷◌, length, map, get_or, set, replicate, unwrap_or, Some, None, Ok, Err, Option, Result, sym, refl, ap, ◌∙◌, subst, ⊎_elim, arith, length-take}
 use Rattle.std.specs.Str.{bytes_eq}
 use Rattle.std.proofs.lemmas.List.{get_or-replicate, get_or_past, get_or-set_same, get_or-set_other, get_or-take, set_past}
 use Rattle.std.proofs.lemmas.Bool.{cases_eq, cases_lt, lt-ltb, le-ltb, ltb-true, or_left, or_right, not_from_true}
@@ -7,9 +7,14 @@ use Rattle.domain.specs.declared.refusal.Refusal.{Refusal}
 use Rattle.domain.specs.declared.refusal.Refusal.TheVariants.{Range, Limit, RulesLeft}
 use Rattle.sketch.specs.Fault.{rule_fits, first_unfit, sketch_fault}
 use Rattle.sketch.specs.Feature.{kinds_of}
-use Rattle.sketch.specs.Rule.{blank, silent, unnamed, idle, entry_at, rule_at}
+use Rattle.sketch.specs.Rule.{blank, silent, idle, entry_at, rule_at}
 use Rattle.sketch.specs.Sieve.{rules_left}
+use Rattle.sketch.specs.declared.rule.Entry.{Entry}
 use Rattle.sketch.specs.declared.rule.Rule.{Rule}
+use Rattle.std.proofs.Math.ListN.{get_or-map}
+use Rattle.std.proofs.lemmas.List.{length-map}
+use Rattle.problem.specs.Tables.{feature_count, rule_count, rule_of, rules_with_blanks}
+use Rattle.problem.proofs.Blanks.{feature_grows}
 use Rattle.sketch.proofs.Bounded.{every_from, lowest_is}
 use Rattle.problem.specs.Form.{and_then}
 use Rattle.problem.specs.Laws.{SieveAlone}
@@ -31,50 +36,56 @@ use Rattle.problem.proofs.Kept.{lines_kept}
 use Rattle.problem.proofs.Shapes.{Shaped, shaped_start, shaped_step}
 use Rattle.problem.proofs.Sounds.{atom_step, action_step, feature_step, rule_step, from_ok, sound_start, sound_step}
 
+-- what a rule says of a feature
+abbrev said : List (List (Option Entry)) → ℕ → ℕ → Option Entry
+said es i f = get_or (get_or es i []) f None
+
 -- no rule says anything of a number past the features
 abbrev Quiet : Reader → Type 0
-Quiet s = (i f : ℕ) → s.features.count ≤ f → silent (entry_at (rule_at s.rules.rules i) f) ≡ true
-
-unnamed_silent : (f : ℕ) → silent (entry_at unnamed f) ≡ true
-unnamed_silent f =
-    ap silent (⊎_elim (λ h. get_or-replicate 8 f blank blank h) (λ h. get_or_past (replicate 8 blank) f blank h) (cases_lt f 8))
+Quiet s = (i f : ℕ) → feature_count s.features ≤ f → said s.rules.entries i f ≡ None
 
 quiet_start : (limit : ℕ) → Quiet (start_of limit)
 quiet_start limit i f h =
-    ⊎_elim (λ l. ap (λ r. silent (entry_at r f)) (get_or-replicate 16 i unnamed idle l) ∙ unnamed_silent f)
-    (λ l. ap (λ r. silent (entry_at r f)) (get_or_past (replicate 16 unnamed) i idle l))
+    ⊎_elim (λ l. ap (λ es. get_or es f None) (get_or-replicate 16 i (replicate 8 None) [] l) ∙ unsaid)
+    (λ l. ap (λ es. get_or es f None) (get_or_past (replicate 16 (replicate 8 None)) i [] l))
     (cases_lt i 16)
+  where
+    blanks : List (Option Entry)
+    blanks = replicate 8 None
+
+    unsaid : get_or blanks f None ≡ None
+    unsaid = ⊎_elim (λ l. get_or-replicate 8 f None None l) (λ l. get_or_past blanks f None l) (cases_lt f 8)
 
 -- an entry changes nothing at another feature
-entry_kept : (rules : List Rule) (row : RuleRow) (i f : ℕ) → row.feature < f
-    → entry_at (rule_at (set rules row.rule (record { entries = set (rule_at rules row.rule).entries row.feature row.entry })) i) f ≡ entry_at (rule_at rules i) f
-entry_kept rules row i f low = ⊎_elim same other (cases_eq i row.rule)
+entry_kept : (es : List (List (Option Entry))) (row : RuleRow) (i f : ℕ) → row.feature < f
+    → said (set es row.rule (set (get_or es row.rule []) row.feature (Some row.entry))) i f ≡ said es i f
+entry_kept es row i f low = ⊎_elim same other (cases_eq i row.rule)
   where
-    new : Rule
-    new = record { entries = set (rule_at rules row.rule).entries row.feature row.entry }
+    new : List (Option Entry)
+    new = set (get_or es row.rule []) row.feature (Some row.entry)
 
-    here : entry_at (rule_at (set rules row.rule new) row.rule) f ≡ entry_at (rule_at rules row.rule) f
+    here : said (set es row.rule new) row.rule f ≡ said es row.rule f
     here =
         ⊎_elim
-        (λ l. ap (λ r. entry_at r f) (get_or-set_same rules row.rule new idle l) ∙ get_or-set_other (rule_at rules row.rule).entries row.feature f row.entry blank (λ e. omega arith))
-        (λ l. ap (λ rs. entry_at (rule_at rs row.rule) f) (set_past rules row.rule new l))
-        (cases_lt row.rule (length rules))
+        (λ l. ap (λ r. get_or r f None) (get_or-set_same es row.rule new [] l) ∙ get_or-set_other (get_or es row.rule []) row.feature f (Some row.entry) None (λ e. omega arith))
+        (λ l. ap (λ rs. said rs row.rule f) (set_past es row.rule new l))
+        (cases_lt row.rule (length es))
 
-    same : i ≡ row.rule → entry_at (rule_at (set rules row.rule new) i) f ≡ entry_at (rule_at rules i) f
-    same e = subst (λ j. entry_at (rule_at (set rules row.rule new) j) f ≡ entry_at (rule_at rules j) f) (sym e) here
+    same : i ≡ row.rule → said (set es row.rule new) i f ≡ said es i f
+    same e = subst (λ j. said (set es row.rule new) j f ≡ said es j f) (sym e) here
 
-    other : (i ≡ row.rule → ⊥) → entry_at (rule_at (set rules row.rule new) i) f ≡ entry_at (rule_at rules i) f
-    other d = ap (λ r. entry_at r f) (get_or-set_other rules row.rule i new idle d)
+    other : (i ≡ row.rule → ⊥) → said (set es row.rule new) i f ≡ said es i f
+    other d = ap (λ r. get_or r f None) (get_or-set_other es row.rule i new [] d)
 
 quiet_valued : (s : Reader) (table : Table) (n : ℕ) (l : List ℕ) (m : Step) → Quiet s → valued s table n l ≡ Ok m → Quiet m.0
 quiet_valued s Atoms n l m h g = subst Quiet (from_ok _ m (atom_step s n l m g).next) h
 quiet_valued s Actions n l m h g = subst Quiet (from_ok _ m (action_step s n l m g).next) h
-quiet_valued s Features n l m h g = subst Quiet (from_ok _ m (feature_step s n l m g).next) (λ i f low. h i f (omega arith))
+quiet_valued s Features n l m h g = subst Quiet (from_ok _ m (feature_step s n l m g).next) (λ i f low. h i f (omega (arith, low, feature_grows s.features (feature_step s n l m g).row)))
 quiet_valued s Rules n l m h g =
     let a = rule_step s n l m g in
     let number : a.row.feature ≡ a.columns.1 = ap (λ r. r.feature) a.line.is in
     let below = a.line.feature_below in
-    subst Quiet (from_ok _ m a.next) (λ i f low. ap silent (entry_kept s.rules.rules a.row i f (omega (arith, number, below))) ∙ h i f low)
+    subst Quiet (from_ok _ m a.next) (λ i f low. entry_kept s.rules.entries a.row i f (omega (arith, number, below)) ∙ h i f low)
 
 quiet_closed : (s : Reader) (table : Table) (n : ℕ) (m : Step) → Quiet s → closed s table n ≡ Ok m → Quiet m.0
 quiet_closed s Atoms n m h g = subst Quiet (from_ok _ m (cond_on (eqb s.atoms.count 0) _ _ m g).1) h
@@ -92,6 +103,10 @@ quiet_step : (s : Reader) (n : ℕ) (l : List ℕ) (m : Step) → Quiet s → st
 unfolding step
 quiet_step s n l m h g = quiet_by s.wanted s n l m h g
 
+-- the entry of a rule
+entry_said : (es : List (List (Option Entry))) (i f : ℕ) → entry_at (rule_at (map rule_of es) i) f ≡ unwrap_or (said es i f) blank
+entry_said es i f = ap (λ r. entry_at r f) (get_or-map rule_of es i []) ∙ get_or-map (λ e. unwrap_or e blank) (get_or es i []) f None
+
 -- such rules fit the features
 all_fit : (s : Reader) → Sound s → Shaped s → Quiet s → first_unfit (length (features_read s)) (rules_read s) ≡ length (rules_read s)
 unfolding first_unfit rule_fits
@@ -100,17 +115,17 @@ all_fit s sound shaped quiet = sym (lowest_is _ (length rs) (length rs) (omega a
     rs : List Rule
     rs = rules_read s
 
-    count : length (features_read s) ≡ s.features.count
-    count = simp length-take (omega (arith, sound.few_features, shaped.of_features.all))
+    count : length (features_read s) ≡ feature_count s.features
+    count = simp (length-take, length-map) (omega (arith, sound.few_features, shaped.of_features.all))
 
-    at : (i : ℕ) → i < length rs → rule_at rs i ≡ rule_at s.rules.rules i
-    at i h = get_or-take s.rules.count s.rules.rules i idle (let l = length-take s.rules.count s.rules.rules in omega arith)
+    at : (i : ℕ) → i < length rs → rule_at rs i ≡ rule_at (rules_with_blanks s.rules) i
+    at i h = get_or-take (rule_count s.rules) (rules_with_blanks s.rules) i idle (let l = length-take (rule_count s.rules) (rules_with_blanks s.rules) in omega arith)
 
     fits : (i : ℕ) → i < length rs → not (rule_fits (length (features_read s)) (rule_at rs i)) ≡ false
     fits i h =
         not_from_true _ (every_from _ 8 (λ f low.
         ⊎_elim (λ l. or_left (ltb f (length (features_read s))) _ (lt-ltb f (length (features_read s)) l))
-        (λ l. or_right (ltb f (length (features_read s))) _ (ap (λ r. silent (entry_at r f)) (at i h) ∙ quiet i f (omega (arith, count))))
+        (λ l. or_right (ltb f (length (features_read s))) _ (ap (λ r. silent (entry_at r f)) (at i h) ∙ ap silent (entry_said s.rules.entries i f ∙ ap (λ o. unwrap_or o blank) (quiet i f (omega (arith, count))))))
         (cases_lt f (length (features_read s)))))
 
 only_left : (s : Reader) → Sound s → Shaped s → Quiet s

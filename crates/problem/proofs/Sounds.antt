@@ -4,6 +4,7 @@ use Rattle.std.specs.Str.{bytes_eq}
 use Rattle.problem.specs.Form.{numbers, lettered, twice_lettered}
 use Rattle.problem.specs.Reader.{Step, names_of, start_of, after_table, wanting, closed, valued, inside, step, step_by, after_atom, after_action, after_feature, after_rule}
 use Rattle.problem.specs.State.{Sound}
+use Rattle.problem.specs.Tables.{feature_count}
 use Rattle.problem.specs.Rows.{checked_atom, checked_action, checked_feature, checked_rule, atom_row, action_row, feature_row, rule_row}
 use Rattle.problem.specs.declared.fault.LineFault.{LineFault}
 use Rattle.problem.specs.declared.fault.Table.{Table}
@@ -15,6 +16,7 @@ use Rattle.problem.specs.declared.tables.ActionRow.{ActionRow}
 use Rattle.problem.specs.declared.tables.AtomRow.{AtomRow}
 use Rattle.problem.specs.declared.tables.FeatureRow.{FeatureRow}
 use Rattle.problem.specs.declared.tables.RuleRow.{RuleRow}
+use Rattle.problem.proofs.Blanks.{feature_raised, rule_raised}
 use Rattle.problem.proofs.Inverse.{then_ok, cond_ok, cond_on, AtomLine, atom_line, ActionLine, action_line, FeatureLine, feature_line, RuleLine, rule_line}
 
 -- a good line of values, with its columns
@@ -43,7 +45,7 @@ pub record RuleStep (s : Reader) (n : ℕ) (bs : List ℕ) (m : Step) : Type 0 w
   pub columns : ℕ × ℕ × ℕ × ℕ
   pub row : RuleRow
   pub form : twice_lettered n bs ≡ Ok columns
-  pub line : RuleLine s.features.count s.rules n columns row
+  pub line : RuleLine (feature_count s.features) s.rules n columns row
   pub next : after_rule s row ≡ Ok m
 
 pub atom_step : (s : Reader) (n : ℕ) (bs : List ℕ) (m : Step) → valued s Atoms n bs ≡ Ok m → AtomStep s n bs m
@@ -70,9 +72,9 @@ feature_step s n bs m h =
 pub rule_step : (s : Reader) (n : ℕ) (bs : List ℕ) (m : Step) → valued s Rules n bs ≡ Ok m → RuleStep s n bs m
 unfolding rule_row
 rule_step s n bs m h =
-    let a = then_ok (rule_row s.features.count s.rules n bs) (after_rule s) m h in
-    let b = then_ok (twice_lettered n bs) (checked_rule s.features.count s.rules n) a.0 a.1 in
-    record { columns = b.0; row = a.0; form = b.1; line = rule_line s.features.count s.rules n b.0 a.0 b.2; next = a.2 }
+    let a = then_ok (rule_row (feature_count s.features) s.rules n bs) (after_rule s) m h in
+    let b = then_ok (twice_lettered n bs) (checked_rule (feature_count s.features) s.rules n) a.0 a.1 in
+    record { columns = b.0; row = a.0; form = b.1; line = rule_line (feature_count s.features) s.rules n b.0 a.0 b.2; next = a.2 }
 
 -- what a good step comes to
 pub from_ok : (k m : Step) → ◌≡◌ {A = Result Step LineFault} (Ok k) (Ok m) → k.0 ≡ m.0
@@ -95,11 +97,11 @@ sound_valued s Actions n bs m h g =
 sound_valued s Features n bs m h g =
     let a = feature_step s n bs m g in
     let number : a.row.feature ≡ a.columns.0 = ap (λ r. r.feature) a.line.is in
-    subst Sound (from_ok _ m a.next) (record { few_atoms = h.few_atoms; few_actions = h.few_actions; few_features = omega (arith, a.line.feature_below, h.few_features, number); few_rules = h.few_rules; small_limit = h.small_limit })
+    subst Sound (from_ok _ m a.next) (record { few_atoms = h.few_atoms; few_actions = h.few_actions; few_features = omega (arith, feature_raised s.features a.row, a.line.feature_below, h.few_features, number); few_rules = h.few_rules; small_limit = h.small_limit })
 sound_valued s Rules n bs m h g =
     let a = rule_step s n bs m g in
     let number : a.row.rule ≡ a.columns.0 = ap (λ r. r.rule) a.line.is in
-    subst Sound (from_ok _ m a.next) (record { few_atoms = h.few_atoms; few_actions = h.few_actions; few_features = h.few_features; few_rules = omega (arith, a.line.rule_below, h.few_rules, number); small_limit = h.small_limit })
+    subst Sound (from_ok _ m a.next) (record { few_atoms = h.few_atoms; few_actions = h.few_actions; few_features = h.few_features; few_rules = omega (arith, rule_raised s.rules a.row, a.line.rule_below, h.few_rules, number); small_limit = h.small_limit })
 
 sound_closed : (s : Reader) (table : Table) (n : ℕ) (m : Step) → Sound s → closed s table n ≡ Ok m → Sound m.0
 sound_closed s Atoms n m h g = subst Sound (from_ok _ m (cond_on (eqb s.atoms.count 0) _ _ m g).1) (sound_wanting s (after_table Atoms) h)

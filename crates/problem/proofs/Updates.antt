@@ -1,18 +1,15 @@
 -- Two changes of a table commute: at different places, or where they do at one place. Assumes nothing.
-use Rattle.std.proofs.Common.{◌≡◌, ℕ, zero, suc, ◌/◌, ◌%◌, ◌^◌, ◌<◌, ◌≤◌, true, false, List, [], length, get_or, set, sym, refl, ap, ◌∙◌, subst, ⊎_elim, arith}
+use Rattle.std.proofs.Common.{◌≡◌, ℕ, zero, suc, ◌/◌, ◌%◌, ◌^◌, ◌<◌, ◌≤◌, Some, None, Option, List, [], length, get_or, set, sym, refl, ap, ◌∙◌, subst, ⊎_elim, arith}
 use lib.Arith.{bin_ind}
 use lib.Bits.{bit_or, or_comm, or_shr, or_mod}
 use Rattle.std.proofs.lemmas.List.{get_or-set_same, get_or-set_other, set-set, set_comm, set_past}
 use Rattle.std.proofs.lemmas.Bool.{cases_eq, cases_lt}
 use Rattle.domain.specs.Atoms.{with_atom}
-use Rattle.domain.specs.Strips.{bare, idle}
+use Rattle.domain.specs.Strips.{idle}
 use Rattle.domain.specs.declared.atoms.AtomSet.{AtomSet}
 use Rattle.domain.specs.declared.strips.Action.{Action}
-use Rattle.sketch.specs.Rule as rules
 use Rattle.sketch.specs.declared.feature.Feature.{Feature}
-use Rattle.sketch.specs.declared.feature.Kind.TheVariants.{Boolean}
-use Rattle.sketch.specs.declared.rule.Rule.{Rule}
-use Rattle.problem.specs.Tables.{with_role, action_added, feature_added, rule_added}
+use Rattle.problem.specs.Tables.{feature_of, with_role, action_added, feature_added, rule_added}
 use Rattle.problem.specs.declared.role.Role.{Role}
 use Rattle.problem.specs.declared.role.Role.TheVariants.{Precondition, Addition, Deletion}
 use Rattle.problem.specs.declared.tables.ActionRow.{ActionRow}
@@ -98,34 +95,18 @@ action_added_both acts q r =
     (λ e act. with_role_both act q.role r.role q.atom r.atom)
 
 pub feature_added_both : (t : FeatureTable) (q r : FeatureRow) → (q.feature ≡ r.feature → q.kind ≡ r.kind) → feature_added (feature_added t q) r ≡ feature_added (feature_added t r) q
-feature_added_both t q r kinds = λ i. record { count = counts i; named = names i; features = all i }
+feature_added_both t q r kinds = λ i. record { features = all i }
   where
-    counts : (feature_added (feature_added t q) r).count ≡ (feature_added (feature_added t r) q).count
-    counts = omega arith
-
-    names : (feature_added (feature_added t q) r).named ≡ (feature_added (feature_added t r) q).named
-    names = changed_both false t.named q.feature r.feature (λ _. true) (λ _. true) (λ e x. refl)
-
-    given : FeatureRow → Feature → Feature
-    given row f = record { kind = row.kind; atoms = with_atom f.atoms row.atom }
+    given : FeatureRow → Option Feature → Option Feature
+    given row f = Some (record { kind = row.kind; atoms = with_atom (feature_of f).atoms row.atom })
 
     all : (feature_added (feature_added t q) r).features ≡ (feature_added (feature_added t r) q).features
-    all = changed_both (record { kind = Boolean; atoms = bare }) t.features q.feature r.feature (given q) (given r)
-        (λ e f i. record { kind = sym (kinds e) i; atoms = with_atom_both f.atoms q.atom r.atom i })
+    all = changed_both None t.features q.feature r.feature (given q) (given r)
+        (λ e f i. Some (record { kind = sym (kinds e) i; atoms = with_atom_both (feature_of f).atoms q.atom r.atom i }))
 
 pub rule_added_both : (t : RuleTable) (q r : RuleRow) → (q.rule ≡ r.rule → q.feature ≡ r.feature → ⊥) → rule_added (rule_added t q) r ≡ rule_added (rule_added t r) q
-rule_added_both t q r apart = λ i. record { count = counts i; named = names i; rules = all i }
+rule_added_both t q r apart = λ i. record { entries = all i }
   where
-    counts : (rule_added (rule_added t q) r).count ≡ (rule_added (rule_added t r) q).count
-    counts = omega arith
-
-    names : (rule_added (rule_added t q) r).named ≡ (rule_added (rule_added t r) q).named
-    names = changed_both [] t.named q.rule r.rule (λ row. set row q.feature true) (λ row. set row r.feature true)
-        (λ e row. changed_both false row q.feature r.feature (λ _. true) (λ _. true) (λ g x. refl))
-
-    given : RuleRow → Rule → Rule
-    given row rule = record { entries = set rule.entries row.feature row.entry }
-
-    all : (rule_added (rule_added t q) r).rules ≡ (rule_added (rule_added t r) q).rules
-    all = changed_both rules.idle t.rules q.rule r.rule (given q) (given r)
-        (λ e rule. ap (λ es. record { entries = es }) (set_comm rule.entries q.feature r.feature q.entry r.entry (apart e)))
+    all : (rule_added (rule_added t q) r).entries ≡ (rule_added (rule_added t r) q).entries
+    all = changed_both [] t.entries q.rule r.rule (λ es. set es q.feature (Some q.entry)) (λ es. set es r.feature (Some r.entry))
+        (λ e es. set_comm es q.feature r.feature (Some q.entry) (Some r.entry) (apart e))

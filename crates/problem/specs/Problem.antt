@@ -8,7 +8,7 @@ use Rattle.sketch.specs.Sketch.{features_of, rules_of}
 use Rattle.sketch.specs.declared.feature.Feature.{Feature}
 use Rattle.sketch.specs.declared.rule.Rule.{Rule}
 use Rattle.problem.specs.Form.{and_then}
-use Rattle.problem.specs.Tables.{blank_action}
+use Rattle.problem.specs.Tables.{blank_action, feature_count, rule_count, features_with_blanks, rules_with_blanks}
 use Rattle.problem.specs.Text.{Reading, read_text}
 use Rattle.problem.specs.declared.fault.LineFault.{LineFault}
 use Rattle.problem.specs.declared.fault.ProblemFault.{ProblemFault}
@@ -27,10 +27,10 @@ pub record Parsed : Type 0 where
 
 -- each table up to the highest number that is named
 abbrev pub features_read : Reader → List Feature
-features_read s = take s.features.count s.features.features
+features_read s = take (feature_count s.features) (features_with_blanks s.features)
 
 abbrev pub rules_read : Reader → List Rule
-rules_read s = take s.rules.count s.rules.rules
+rules_read s = take (rule_count s.rules) (rules_with_blanks s.rules)
 
 abbrev pub parsed : Reading → Parsed
 parsed r = record {

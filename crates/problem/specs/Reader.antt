@@ -3,7 +3,7 @@ use Rattle.std.specs.Prelude.{◌≡◌, ℕ, cond, List, [], ◌∷◌, Some, N
 use Rattle.std.specs.Str.{bytes_eq}
 use Rattle.problem.specs.Form.{and_then}
 use Rattle.problem.specs.Rows.{atom_row, action_row, feature_row, rule_row}
-use Rattle.problem.specs.Tables.{no_atoms, no_features, no_rules, raised_to, atom_added, feature_added, rule_added}
+use Rattle.problem.specs.Tables.{no_atoms, no_features, no_rules, feature_count, raised_to, atom_added, feature_added, rule_added}
 use Rattle.problem.specs.declared.fault.LineFault.{LineFault}
 use Rattle.problem.specs.declared.fault.LineFault.TheVariants.{Names, NoAtoms, AfterEnd}
 use Rattle.problem.specs.declared.fault.Table.{Table}
@@ -89,7 +89,7 @@ abbrev pub valued : Reader → Table → ℕ → List ℕ → Result Step LineFa
 valued s Atoms n bs = and_then (atom_row s.atoms.count n bs) (after_atom s)
 valued s Actions n bs = and_then (action_row s.atoms.count s.limit n bs) (after_action s)
 valued s Features n bs = and_then (feature_row s.atoms.count s.features n bs) (after_feature s)
-valued s Rules n bs = and_then (rule_row s.features.count s.rules n bs) (after_rule s)
+valued s Rules n bs = and_then (rule_row (feature_count s.features) s.rules n bs) (after_rule s)
 
 -- a line inside a table: the empty one ends it
 abbrev pub inside : Reader → Table → ℕ → List ℕ → Result Step LineFault

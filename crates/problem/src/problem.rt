@@ -39,9 +39,12 @@ impl Reader {
         ensures faults { MatchResult result (λ _. sketch_fault (features_read self.now) (rules_read self.now) ≡ None) (λ e. sketch_fault (features_read self.now) (rules_read self.now) ≡ Some e) }
         ensures given { IfOk result (λ s. (features_of s ≡ features_read self.now) × (rules_of s ≡ rules_read self.now)) }
     {
-        let features = &self.features.features[0..self.features.count];
-        let rules = &self.rules.rules[0..self.rules.count];
-        Sketch::new(features, rules)
+        let features = self.features.all();
+        let rules = self.rules.all();
+        Sketch::new(
+            &features[..self.features.count()],
+            &rules[..self.rules.count()],
+        )
     }
 }
 

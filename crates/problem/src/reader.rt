@@ -145,7 +145,7 @@ impl Reader {
     fn add_rule(&mut self, line: &Line) -> Result<Option<ActionRow>, LineFault>
         ensures { Moves (valued self.old Rules line.now.number line.now.bytes.now) self.new result }
     {
-        let row = read_rule_row(line, self.features.count, &self.rules)?;
+        let row = read_rule_row(line, self.features.count(), &self.rules)?;
         self.rules.add(row);
         Ok(None)
     }

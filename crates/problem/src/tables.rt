@@ -1,12 +1,13 @@
 // The tables of a text as they are filled, and what one line adds to each.
-ghost use Rattle.std.specs.Prelude.{◌≡◌, ◌<◌, ◌≤◌};
-ghost use Rattle.problem.specs.Tables.{no_atoms, no_features, no_rules, atom_added, action_added, feature_added, rule_added, other_kind, both_named, with_role};
+ghost use Rattle.std.specs.Prelude.{◌≡◌, ◌<◌, ◌≤◌, position, reverse, is_some};
+ghost use Rattle.std.specs.List.{list_any};
+ghost use Rattle.problem.specs.Tables.{no_atoms, no_features, no_rules, feature_count, rule_count, rule_of, features_with_blanks, rules_with_blanks, atom_added, action_added, feature_added, rule_added, other_kind, both_named, with_role};
 
 use crate::role::Role;
 use domain::atoms::AtomSet;
 use domain::strips::Action;
 use sketch::feature::{Feature, Kind};
-use sketch::rule::{Entry, Rule};
+use sketch::rule::{Condition, Effect, Entry, Rule};
 
 // Whether the next atom is true at the start, and whether it is a goal.
 #[derive(Clone, Copy)]
@@ -46,20 +47,16 @@ pub struct AtomTable {
     pub goal: AtomSet,
 }
 
-// The features up to the highest that was named, and which were.
+// The features that were named, at their numbers.
 #[derive(Clone, Copy)]
 pub struct FeatureTable {
-    pub count: usize,
-    pub named: [bool; 8],
-    pub features: [Feature; 8],
+    pub features: [Option<Feature>; 8],
 }
 
-// The rules up to the highest that was named, and which features each named.
+// What was said of each rule and each feature.
 #[derive(Clone, Copy)]
 pub struct RuleTable {
-    pub count: usize,
-    pub named: [[bool; 8]; 16],
-    pub rules: [Rule; 16],
+    pub entries: [[Option<Entry>; 8]; 16],
 }
 
 impl AtomTable {
@@ -117,34 +114,74 @@ impl FeatureTable {
         ensures { result ≡ no_features }
     {
         FeatureTable {
-            count: 0,
-            named: [false; 8],
-            features: [Feature {
-                kind: Kind::TrueCount,
-                atoms: AtomSet::empty(),
-            }; 8],
+            features: [None; 8],
         }
+    }
+
+    // How many numbers stand behind the highest that was named.
+    fn behind(&self) -> Option<usize>
+        ensures { result ≡ position is_some (reverse self.now.features) }
+    {
+        self.features
+            .iter()
+            .rev()
+            .position(|feature| feature.is_some())
+    }
+
+    // One above the highest number that was named.
+    pub(crate) fn count(&self) -> usize
+        ensures value { result ≡ feature_count self.now }
+        ensures below { result ≤ 8 }
+    {
+        self.behind().map_or(0, |behind| 8 - behind)
+    }
+
+    // All features: those that were not named are blank.
+    pub(crate) fn all(&self) -> [Feature; 8]
+        ensures { result ≡ features_with_blanks self.now }
+    {
+        self.features
+            .map(|feature| feature.unwrap_or(Feature::blank()))
     }
 
     // Whether the feature was named under another kind.
     pub(crate) fn has_other_kind(&self, feature: usize, kind: Kind) -> bool
         ensures { result ≡ other_kind self.now feature kind }
     {
-        feature < 8 && self.named[feature] && self.features[feature].kind != kind
+        feature < 8 && self.features[feature].is_some_and(|named| named.kind != kind)
     }
 
     pub(crate) fn add(&mut self, row: FeatureRow)
         requires { row.feature < 8 }
         ensures { self.new ≡ feature_added self.old row }
     {
-        let mut atoms = self.features[row.feature].atoms;
+        let mut atoms = self.features[row.feature].unwrap_or(Feature::blank()).atoms;
         atoms.insert(row.atom);
-        self.features[row.feature] = Feature {
+        self.features[row.feature] = Some(Feature {
             kind: row.kind,
             atoms,
-        };
-        self.named[row.feature] = true;
-        self.count = self.count.max(row.feature + 1);
+        });
+    }
+}
+
+// Whether a rule was named, by what was said of each feature.
+fn is_named(entries: &[Option<Entry>; 8]) -> bool
+    ensures { result ≡ list_any is_some entries.now }
+{
+    entries.iter().any(|entry| entry.is_some())
+}
+
+// The rule of what was said of each feature: of the others it says nothing.
+fn rule_of(entries: [Option<Entry>; 8]) -> Rule
+    ensures { result ≡ rule_of entries }
+{
+    Rule {
+        entries: entries.map(|entry| {
+            entry.unwrap_or(Entry {
+                when: Condition::Any,
+                then: Effect::Same,
+            })
+        }),
     }
 }
 
@@ -153,29 +190,48 @@ impl RuleTable {
         ensures { result ≡ no_rules }
     {
         RuleTable {
-            count: 0,
-            named: [[false; 8]; 16],
-            rules: [Rule::blank(); 16],
+            entries: [[None; 8]; 16],
         }
+    }
+
+    // How many numbers stand behind the highest that was named.
+    fn behind(&self) -> Option<usize>
+        ensures { result ≡ position (list_any is_some) (reverse self.now.entries) }
+    {
+        self.entries
+            .iter()
+            .rev()
+            .position(|entries| is_named(entries))
+    }
+
+    // One above the highest number that was named.
+    pub(crate) fn count(&self) -> usize
+        ensures value { result ≡ rule_count self.now }
+        ensures below { result ≤ 16 }
+    {
+        self.behind().map_or(0, |behind| 16 - behind)
+    }
+
+    // All rules: those that were not named say nothing.
+    pub(crate) fn all(&self) -> [Rule; 16]
+        ensures { result ≡ rules_with_blanks self.now }
+    {
+        self.entries.map(rule_of)
     }
 
     // Whether the rule and the feature were named together.
     pub(crate) fn has_both(&self, rule: usize, feature: usize) -> bool
         ensures { result ≡ both_named self.now rule feature }
     {
-        rule < 16 && feature < 8 && self.named[rule][feature]
+        rule < 16 && feature < 8 && self.entries[rule][feature].is_some()
     }
 
     pub(crate) fn add(&mut self, row: RuleRow)
         requires { (row.rule < 16) × (row.feature < 8) }
         ensures { self.new ≡ rule_added self.old row }
     {
-        let mut paired = self.named[row.rule];
-        paired[row.feature] = true;
-        self.named[row.rule] = paired;
-        let mut entries = self.rules[row.rule].entries;
-        entries[row.feature] = row.entry;
-        self.rules[row.rule] = Rule { entries };
-        self.count = self.count.max(row.rule + 1);
+        let mut entries = self.entries[row.rule];
+        entries[row.feature] = Some(row.entry);
+        self.entries[row.rule] = entries;
     }
 }
