@@ -1,10 +1,7 @@
-use Rattle.std.proofs.Common.{◌≡◌, ◌+◌, ◌<◌, ◌≤◌, length, sym, refl, ap, ◌∙◌, subst, arith}
+use Rattle.std.proofs.Common.{◌≡◌, ◌+◌, ◌<◌, ◌≤◌, length, sym, ap, ◌∙◌, subst, arith}
 use Rattle.planner.specs.Way.{parent_of, way_to, root}
 use Rattle.planner.proofs.Links.{lower_some, lower_none, length_way_lower, root_lower, way_to_end, root_end}
 use Rattle.planner.proofs.way.trace_back.Goals as goal
-
-pub loop-parent-init : goal.loop-parent-init
-loop-parent-init g c = (c.requires, omega arith, omega arith, refl)
 
 -- the invariant at the number before
 pub loop-parent-preserved : goal.loop-parent-preserved
@@ -22,11 +19,6 @@ loop-parent-preserved g c =
     × (root nodes c.args.from c.args.from ≡ root nodes p p))
     taken.0
     (omega (arith, inv.0, taken.1), omega (arith, inv.1, taken.1), counted, inv.3 ∙ root_lower nodes at taken.1)
-
-pub loop-parent-smaller : goal.loop-parent-smaller
-loop-parent-smaller g c =
-    let taken = lower_some c.args.nodes.now c.loop-parent.root c.in-Some.parent (sym c.in-Some.ensures) in
-    omega (arith, taken.0, taken.1)
 
 -- at the end no link is left to take
 pub returns : goal.returns

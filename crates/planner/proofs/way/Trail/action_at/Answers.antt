@@ -1,15 +1,9 @@
 use Rattle.std.proofs.Common.{◌≡◌, suc, ◌+◌, ◌-◌, ◌<◌, ◌≤◌, [], ◌∷◌, ◌++◌, length, get_or, take, sym, ap, ◌∙◌, ap₂, arith}
-use Rattle.std.proofs.lemmas.List.{take_all, length-take-le, length_push, get_or-take, get_or_push}
+use Rattle.std.proofs.lemmas.List.{length-take-le, length_push, get_or-take, get_or_push}
 use Rattle.planner.specs.Search.{link}
 use Rattle.planner.specs.Way.{parent_of, action_of, way_to, actions_of}
 use Rattle.planner.proofs.Links.{parent_read, action_read, back_one}
 use Rattle.planner.proofs.way.Trail.action_at.Goals as goal
-
-pub loop-init : goal.loop-init
-loop-init g c =
-    let t = c.args.self.now in
-    let all : length (actions_of t.nodes.now t.way.now) ≤ t.way.now.length + c.args.step - c.args.step = omega (arith, t.long) in
-    rw c.last-link.ensures (t.there, take_all _ _ all)
 
 pub loop-preserved : goal.loop-preserved
 loop-preserved g c =

@@ -3,11 +3,6 @@ use Rattle.planner.specs.Way.{actions_of, runs_to_target}
 use Rattle.planner.proofs.Runs.{runs_more, runs_all, and_passed, and_failed}
 use Rattle.planner.proofs.way.Trail.leads_to_target.Goals as goal
 
-pub loop-step-init : goal.loop-step-init
-loop-step-init g c =
-    let P = g.D.StateModel.meaning c.args.self.now.model.now in
-    ap (λ s. runs_to_target P s (actions_of c.args.self.now.nodes.now c.args.self.now.way.now)) (sym c.start-state.ensures)
-
 pub returns-then-not-applies : goal.returns-then-not-applies
 returns-then-not-applies g c =
     let P = g.D.StateModel.meaning c.args.self.now.model.now in
