@@ -37,24 +37,21 @@ fn check_letter<T: TryFrom<char, Error = UnknownLetter>>(
 }
 
 // The line of the atom `next`.
-fn check_atom(
-    line: usize,
-    next: usize,
-    atom: usize,
-    start: usize,
-    goal: usize,
-) -> Result<AtomRow, LineFault>
-    ensures value { result ≡ checked_atom next line (atom, start, goal) }
+fn check_atom(line: usize, next: usize, values: (usize, usize, usize)) -> Result<AtomRow, LineFault>
+    ensures value { result ≡ checked_atom next line values }
     ensures bound { OnOk result (next < 256) }
 {
+    let (atom, start, goal) = values;
     if atom != next {
         return Err(LineFault::AtomOrder { line });
     }
     let start = check_truth(line, 2, start)?;
     let goal = check_truth(line, 3, goal)?;
     if next >= MAX_ATOMS {
-        let table = Table::Atoms;
-        return Err(LineFault::Full { line, table });
+        return Err(LineFault::Full {
+            line,
+            table: Table::Atoms,
+        });
     }
     Ok(AtomRow { start, goal })
 }
@@ -64,21 +61,22 @@ fn check_action(
     line: usize,
     atoms: usize,
     limit: usize,
-    action: usize,
-    letter: char,
-    atom: usize,
+    values: (usize, char, usize),
 ) -> Result<ActionRow, LineFault>
     requires { atoms ≤ 256 }
-    ensures value { result ≡ checked_action atoms limit line (action, letter, atom) }
+    ensures value { result ≡ checked_action atoms limit line values }
     ensures bound { IfOk result (λ row. row.action < limit) }
 {
+    let (action, letter, atom) = values;
     let role: Role = check_letter(line, 2, letter)?;
     if atom >= atoms {
         return Err(LineFault::NoSuchAtom { line });
     }
     if action >= limit {
-        let table = Table::Actions;
-        return Err(LineFault::Full { line, table });
+        return Err(LineFault::Full {
+            line,
+            table: Table::Actions,
+        });
     }
     let atom = atom as u8;
     Ok(ActionRow { action, role, atom })
@@ -96,14 +94,13 @@ fn check_feature(
     line: usize,
     atoms: usize,
     table: &FeatureTable,
-    feature: usize,
-    letter: char,
-    atom: usize,
+    values: (usize, char, usize),
 ) -> Result<FeatureRow, LineFault>
     requires { atoms ≤ 256 }
-    ensures value { result ≡ checked_feature atoms table.now line (feature, letter, atom) }
+    ensures value { result ≡ checked_feature atoms table.now line values }
     ensures bound { IfOk result (λ row. row.feature < 8) }
 {
+    let (feature, letter, atom) = values;
     let named: Result<Kind, LineFault> = check_letter(line, 2, letter);
     if is_second_kind(table, feature, named.ok()) {
         return Err(LineFault::SecondKind { line });
@@ -113,8 +110,10 @@ fn check_feature(
         return Err(LineFault::NoSuchAtom { line });
     }
     if feature >= 8 {
-        let table = Table::Features;
-        return Err(LineFault::Full { line, table });
+        return Err(LineFault::Full {
+            line,
+            table: Table::Features,
+        });
     }
     let atom = atom as u8;
     Ok(FeatureRow {
@@ -138,14 +137,12 @@ fn check_rule(
     line: usize,
     features: usize,
     table: &RuleTable,
-    rule: usize,
-    feature: usize,
-    when: char,
-    then: char,
+    values: (usize, usize, char, char),
 ) -> Result<RuleRow, LineFault>
-    ensures value { result ≡ checked_rule features table.now line (rule, feature, when, then) }
+    ensures value { result ≡ checked_rule features table.now line values }
     ensures bound { IfOk result (λ row. (row.rule < 16) × (row.feature < features)) }
 {
+    let (rule, feature, when, then) = values;
     if table.has_both(rule, feature) {
         return Err(LineFault::NamedTwice { line });
     }
@@ -154,8 +151,10 @@ fn check_rule(
     }
     let entry = check_entry(line, when, then)?;
     if rule >= 16 {
-        let table = Table::Rules;
-        return Err(LineFault::Full { line, table });
+        return Err(LineFault::Full {
+            line,
+            table: Table::Rules,
+        });
     }
     Ok(RuleRow {
         rule,
@@ -169,8 +168,8 @@ pub(crate) fn read_atom_row(line: &Line, next: usize) -> Result<AtomRow, LineFau
     ensures value { result ≡ atom_row next line.now.number line.now.bytes.now }
     ensures bound { OnOk result (next < 256) }
 {
-    let (atom, start, goal) = read_three::<usize, usize, usize>(line)?;
-    check_atom(line.number, next, atom, start, goal)
+    let values = read_three(line)?;
+    check_atom(line.number, next, values)
 }
 
 pub(crate) fn read_action_row(
@@ -182,8 +181,8 @@ pub(crate) fn read_action_row(
     ensures value { result ≡ action_row atoms limit line.now.number line.now.bytes.now }
     ensures bound { IfOk result (λ row. row.action < limit) }
 {
-    let (action, letter, atom) = read_three::<usize, char, usize>(line)?;
-    check_action(line.number, atoms, limit, action, letter, atom)
+    let values = read_three(line)?;
+    check_action(line.number, atoms, limit, values)
 }
 
 pub(crate) fn read_feature_row(
@@ -195,8 +194,8 @@ pub(crate) fn read_feature_row(
     ensures value { result ≡ feature_row atoms table.now line.now.number line.now.bytes.now }
     ensures bound { IfOk result (λ row. row.feature < 8) }
 {
-    let (feature, letter, atom) = read_three::<usize, char, usize>(line)?;
-    check_feature(line.number, atoms, table, feature, letter, atom)
+    let values = read_three(line)?;
+    check_feature(line.number, atoms, table, values)
 }
 
 pub(crate) fn read_rule_row(
@@ -208,6 +207,6 @@ pub(crate) fn read_rule_row(
     ensures value { result ≡ rule_row features table.now line.now.number line.now.bytes.now }
     ensures bound { IfOk result (λ row. (row.rule < 16) × (row.feature < features)) }
 {
-    let (rule, feature, when, then) = read_four::<usize, usize, char, char>(line)?;
-    check_rule(line.number, features, table, rule, feature, when, then)
+    let values = read_four(line)?;
+    check_rule(line.number, features, table, values)
 }

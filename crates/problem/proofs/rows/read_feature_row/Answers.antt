@@ -5,12 +5,12 @@ use Rattle.problem.specs.Rows.{feature_row, checked_feature}
 use Rattle.problem.proofs.Caps.{feature_capped, lettered_capped, composed, composed_err}
 use Rattle.problem.proofs.rows.read_feature_row.Goals as goal
 
-pub returns-in_err-feature : goal.returns-in_err-feature
+pub returns-in_err-values : goal.returns-in_err-values
 unfolding feature_row
-returns-in_err-feature c =
+returns-in_err-values c =
     let p = err_from_is_err_and c.from_residual.result c.from_residual.ensures.1 in
-    record { value = rw (p.1, p.2) (composed_err capped_lettered (checked_feature c.args.atoms c.args.table.now c.args.line.now.number) _ _ (c.in_err-feature.ensures ∙ lettered_capped _ c.args.line.now.bytes.now)); bound = IfOk-from_err _ _ c.from_residual.ensures.0 }
+    record { value = rw (p.1, p.2) (composed_err capped_lettered (checked_feature c.args.atoms c.args.table.now c.args.line.now.number) _ _ (c.in_err-values.ensures ∙ lettered_capped _ c.args.line.now.bytes.now)); bound = IfOk-from_err _ _ c.from_residual.ensures.0 }
 
 pub returns : goal.returns
 unfolding feature_row
-returns c = record { value = c.check_feature.ensures.value ∙ composed capped_lettered (checked_feature c.args.atoms c.args.table.now c.args.line.now.number) (feature_capped _ c.args.table.now _ c.requires) _ _ (c.in_ok-feature.ensures ∙ lettered_capped _ c.args.line.now.bytes.now); bound = c.check_feature.ensures.bound }
+returns c = record { value = c.check_feature.ensures.value ∙ composed capped_lettered (checked_feature c.args.atoms c.args.table.now c.args.line.now.number) (feature_capped _ c.args.table.now _ c.requires) _ _ (c.in_ok-values.ensures ∙ lettered_capped _ c.args.line.now.bytes.now); bound = c.check_feature.ensures.bound }
