@@ -1,4 +1,4 @@
--- What a list held in an array is. Assumes nothing.
+-- A list held at the beginning of an array. Assumes nothing.
 use Rattle.std.specs.Prelude.{ℕ, List, take}
 use Rattle.sketch.specs.declared.held.Held.{Held}
 

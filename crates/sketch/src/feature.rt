@@ -60,7 +60,7 @@ pub struct Feature {
 }
 
 impl Feature {
-    // The feature that is not named: it counts no atoms. A const, which `Default` cannot be.
+    // The feature that is not named: it counts no atoms. A const fn, which `Default::default` cannot be.
     pub const fn blank() -> Feature
         ensures { result ≡ unnamed_feature }
     {

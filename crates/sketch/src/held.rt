@@ -12,6 +12,7 @@ pub struct Held<T, const N: usize> {
     ghost full: { length items ≡ N },
 }
 
+// By hand: a derive of `Clone` is refused on a generic struct with a ghost field.
 impl<T: Copy, const N: usize> Clone for Held<T, N> {
     fn clone(&self) -> Result<Held<T, N>, AllocError> {
         Ok(*self)

@@ -127,7 +127,7 @@ impl Effect {
 }
 
 impl Rule {
-    // The rule that names no feature. A const, which `Default` cannot be.
+    // The rule that names no feature. A const fn, which `Default::default` cannot be.
     pub const fn blank() -> Rule
         ensures { result ≡ unnamed }
     {
