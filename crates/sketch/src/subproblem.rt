@@ -50,12 +50,9 @@ impl<'a, D: StateModel> StateModel for Subproblem<'a, D> {
     }
 
     fn is_target(&self, state: D::State) -> bool {
-        if self.below.is_target(state) {
-            return true;
-        }
         let from = self.below.truths(self.origin);
         let to = self.below.truths(state);
-        self.sketch.accepts(&from, &to)
+        self.below.is_target(state) || self.sketch.accepts(&from, &to)
     }
 
     fn applies(&self, state: D::State, action: usize) -> bool {
