@@ -5,7 +5,7 @@ use Rattle.std.proofs.lemmas.Bool.{cases_lt, le-ltb, ne_eqb}
 use Rattle.sketch.specs.Kind.{kind_named}
 use Rattle.sketch.specs.declared.feature.Kind.{Kind}
 use Rattle.sketch.specs.declared.rule.Entry.{Entry}
-use Rattle.problem.specs.Form.{and_then, good_by, number_at, held_three, held_four, numbers, lettered, twice_lettered, capped_at, capped_numbers, capped_lettered, capped_twice}
+use Rattle.problem.specs.Form.{and_then, good_by, number_at, three_values, four_values, numbers, lettered, twice_lettered, capped_at, capped_numbers, capped_lettered, capped_twice}
 use Rattle.problem.specs.Lines.{fields, three, four}
 use Rattle.problem.specs.Numeral.{letter, capped}
 use Rattle.problem.specs.Role.{role_named}
@@ -103,7 +103,7 @@ then_same : {X Y Y' E : Type 0} (q : Y → Y') (r : Result X E) (f : X → Resul
 then_same q (Ok x) f g h = h x
 then_same q (Err e) f g h = refl
 
-pub numbers_capped : (n : ℕ) (bs : List ℕ) → held_three capped_at capped_at capped_at n bs ≡ good_by capped_numbers (numbers n bs)
+pub numbers_capped : (n : ℕ) (bs : List ℕ) → three_values capped_at capped_at capped_at n bs ≡ good_by capped_numbers (numbers n bs)
 unfolding numbers
 numbers_capped n bs =
     then_same capped_numbers (three n (fields bs)) _ _ λ t.
@@ -111,7 +111,7 @@ numbers_capped n bs =
     then_by capped capped_numbers (number_at n 2 t.1) _ _ λ v.
     then_by capped capped_numbers (number_at n 3 t.2) _ _ λ w. refl
 
-pub lettered_capped : (n : ℕ) (bs : List ℕ) → held_three capped_at letter capped_at n bs ≡ good_by capped_lettered (lettered n bs)
+pub lettered_capped : (n : ℕ) (bs : List ℕ) → three_values capped_at letter capped_at n bs ≡ good_by capped_lettered (lettered n bs)
 unfolding lettered
 lettered_capped n bs =
     then_same capped_lettered (three n (fields bs)) _ _ λ t.
@@ -119,7 +119,7 @@ lettered_capped n bs =
     then_same capped_lettered (letter n 2 t.1) _ _ λ c.
     then_by capped capped_lettered (number_at n 3 t.2) _ _ λ v. refl
 
-pub twice_capped : (n : ℕ) (bs : List ℕ) → held_four capped_at capped_at letter letter n bs ≡ good_by capped_twice (twice_lettered n bs)
+pub twice_capped : (n : ℕ) (bs : List ℕ) → four_values capped_at capped_at letter letter n bs ≡ good_by capped_twice (twice_lettered n bs)
 unfolding twice_lettered
 twice_capped n bs =
     then_same capped_twice (four n (fields bs)) _ _ λ t.

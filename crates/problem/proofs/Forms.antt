@@ -1,13 +1,8 @@
 -- A line whose columns are all good. Assumes nothing.
 use Rattle.std.proofs.Common.{◌≡◌, ℕ, List, Ok}
-use Rattle.problem.specs.Form.{numbers, lettered, twice_lettered}
+use Rattle.problem.specs.Form.{lettered, twice_lettered}
 use Rattle.problem.specs.Lines.{fields, three, four}
 use Rattle.problem.specs.Numeral.{numeral, letter}
-
-pub numbers_good : (n : ℕ) (bs p q r : List ℕ) (u v w : ℕ) → three n (fields bs) ≡ Ok (p, q, r)
-    → numeral n 1 p ≡ Ok u → numeral n 2 q ≡ Ok v → numeral n 3 r ≡ Ok w → numbers n bs ≡ Ok (u, v, w)
-unfolding numbers
-numbers_good n bs p q r u v w e e₁ e₂ e₃ = simp (e, e₁, e₂, e₃)
 
 pub lettered_good : (n : ℕ) (bs p q r : List ℕ) (u c v : ℕ) → three n (fields bs) ≡ Ok (p, q, r)
     → numeral n 1 p ≡ Ok u → letter n 2 q ≡ Ok c → numeral n 3 r ≡ Ok v → lettered n bs ≡ Ok (u, c, v)

@@ -26,18 +26,18 @@ abbrev pub number_at : ℕ → ℕ → List ℕ → Result ℕ LineFault
 number_at n column bs = of_line (numeral n column bs)
 
 -- the values of a line, column by column; of each column its line's number, its own and its bytes tell what it holds
-abbrev pub held_three : {X Y Z : Type 0} → (ℕ → ℕ → List ℕ → Result X LineFault) → (ℕ → ℕ → List ℕ → Result Y LineFault) → (ℕ → ℕ → List ℕ → Result Z LineFault)
+abbrev pub three_values : {X Y Z : Type 0} → (ℕ → ℕ → List ℕ → Result X LineFault) → (ℕ → ℕ → List ℕ → Result Y LineFault) → (ℕ → ℕ → List ℕ → Result Z LineFault)
     → ℕ → List ℕ → Result (X × Y × Z) LineFault
-held_three f g h n bs =
+three_values f g h n bs =
     and_then (three n (fields bs)) λ columns.
     and_then (f n 1 columns.0) λ u.
     and_then (g n 2 columns.1) λ v.
     and_then (h n 3 columns.2) λ w.
     Ok (u, v, w)
 
-abbrev pub held_four : {X Y Z W : Type 0} → (ℕ → ℕ → List ℕ → Result X LineFault) → (ℕ → ℕ → List ℕ → Result Y LineFault) → (ℕ → ℕ → List ℕ → Result Z LineFault)
+abbrev pub four_values : {X Y Z W : Type 0} → (ℕ → ℕ → List ℕ → Result X LineFault) → (ℕ → ℕ → List ℕ → Result Y LineFault) → (ℕ → ℕ → List ℕ → Result Z LineFault)
     → (ℕ → ℕ → List ℕ → Result W LineFault) → ℕ → List ℕ → Result (X × Y × Z × W) LineFault
-held_four f g h k n bs =
+four_values f g h k n bs =
     and_then (four n (fields bs)) λ columns.
     and_then (f n 1 columns.0) λ u.
     and_then (g n 2 columns.1) λ v.
@@ -47,15 +47,15 @@ held_four f g h k n bs =
 
 -- a line of three numbers, as in the atom table
 unfoldable pub numbers : ℕ → List ℕ → Result (ℕ × ℕ × ℕ) LineFault
-numbers n bs = held_three number_at number_at number_at n bs
+numbers n bs = three_values number_at number_at number_at n bs
 
 -- a number, a letter and a number, as in the tables of actions and of features
 unfoldable pub lettered : ℕ → List ℕ → Result (ℕ × ℕ × ℕ) LineFault
-lettered n bs = held_three number_at letter number_at n bs
+lettered n bs = three_values number_at letter number_at n bs
 
 -- two numbers and two letters, as in the table of rules
 unfoldable pub twice_lettered : ℕ → List ℕ → Result (ℕ × ℕ × ℕ × ℕ) LineFault
-twice_lettered n bs = held_four number_at number_at letter letter n bs
+twice_lettered n bs = four_values number_at number_at letter letter n bs
 
 -- numbers as a machine holds them
 abbrev pub capped_at : ℕ → ℕ → List ℕ → Result ℕ LineFault

@@ -41,8 +41,7 @@ fn split_field<'a>(bytes: &'a [u8]) -> Option<(&'a [u8], &'a [u8])>
     split_once(bytes, b' ')
 }
 
-// One function for any number of fields, as an array, is refused where its items hold a lifetime: tried with the columns,
-// and with their bytes alone, by items and by index.
+// Not one function that makes an array `[&[u8]; N]` or of columns, by items or by index: its items' lifetime gets no proof.
 // The fields, if they are three.
 pub(crate) fn three_fields<'a>(bytes: &'a [u8]) -> Option<(&'a [u8], &'a [u8], &'a [u8])>
     ensures { MatchOption result ((n : ℕ) → three n (fields bytes.now) ≡ Err (Columns n)) (λ t. (n : ℕ) → three n (fields bytes.now) ≡ Ok (t.0.now, t.1.now, t.2.now)) }
