@@ -8,39 +8,23 @@ const ORDERED: [u8; 9] = [0, 1, 2, 3, 4, 5, 6, 7, 8];
 
 const CENTRED: [u8; 9] = [1, 2, 3, 4, 0, 5, 6, 7, 8];
 
-// What is refused of nine pieces, if anything is.
-fn board_refusal(pieces: [u8; 9]) -> Option<Refusal> {
-    match Board::new(pieces) {
-        Ok(_) => None,
-        Err(refusal) => Some(refusal),
-    }
-}
-
-// What is refused of a list of goal atoms, if anything is.
-fn goal_refusal(start: Board, goal: &[u8]) -> Option<Refusal> {
-    match Puzzle::new(start, goal) {
-        Ok(_) => None,
-        Err(refusal) => Some(refusal),
-    }
-}
-
 #[test]
 fn pieces_are_checked(rt: HostRuntime) {
-    assert_eq!(rt; board_refusal(ORDERED), None);
+    assert_eq!(rt; Board::new(ORDERED).err(), None);
     assert_eq!(rt;
-        board_refusal([1, 2, 1, 2, 1, 2, 9, 9, 9]),
+        Board::new([1, 2, 1, 2, 1, 2, 9, 9, 9]).err(),
         Some(Refusal::Range { place: 2 })
     );
     assert_eq!(rt;
-        board_refusal([9, 0, 0, 1, 2, 3, 4, 5, 6]),
+        Board::new([9, 0, 0, 1, 2, 3, 4, 5, 6]).err(),
         Some(Refusal::Range { place: 0 })
     );
     assert_eq!(rt;
-        board_refusal([8, 7, 6, 5, 4, 3, 2, 1, 8]),
+        Board::new([8, 7, 6, 5, 4, 3, 2, 1, 8]).err(),
         Some(Refusal::Range { place: 8 })
     );
     assert_eq!(rt;
-        board_refusal([8, 7, 6, 5, 4, 3, 2, 255, 0]),
+        Board::new([8, 7, 6, 5, 4, 3, 2, 255, 0]).err(),
         Some(Refusal::Range { place: 7 })
     );
 }
@@ -48,18 +32,18 @@ fn pieces_are_checked(rt: HostRuntime) {
 #[test]
 fn goals_are_checked(rt: HostRuntime) -> Result<(), Fail> {
     let start = Board::new(ORDERED)?;
-    assert_eq!(rt; goal_refusal(start, &[]), None);
-    assert_eq!(rt; goal_refusal(start, &[80; 9]), None);
+    assert_eq!(rt; Puzzle::new(start, &[]).err(), None);
+    assert_eq!(rt; Puzzle::new(start, &[80; 9]).err(), None);
     assert_eq!(rt;
-        goal_refusal(start, &[80; 10]),
+        Puzzle::new(start, &[80; 10]).err(),
         Some(Refusal::Limit { place: 9 })
     );
     assert_eq!(rt;
-        goal_refusal(start, &[81; 10]),
+        Puzzle::new(start, &[81; 10]).err(),
         Some(Refusal::Limit { place: 9 })
     );
     assert_eq!(rt;
-        goal_refusal(start, &[0, 80, 81, 255]),
+        Puzzle::new(start, &[0, 80, 81, 255]).err(),
         Some(Refusal::Range { place: 2 })
     );
     Ok(())
