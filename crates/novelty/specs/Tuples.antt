@@ -1,5 +1,5 @@
 -- Tuples of atoms and their keys: each set of at most k of the true atoms below N has one key, its rank. Assumes nothing.
-use Rattle.std.specs.Prelude.{◌≡◌, ℕ, zero, suc, ◌+◌, ◌<◌, cond, ltb, List, [], ◌∷◌, ◌++◌, map, length, Some, None, filter, Option, ◌==◌, nat_lt}
+use Rattle.std.specs.Prelude.{◌≡◌, ℕ, zero, suc, ◌+◌, ◌<◌, cond, List, [], ◌∷◌, ◌++◌, map, length, Some, None, filter, Option, ◌==◌, nat_lt}
 use Rattle.std.specs.List.{AllByRecursion}
 use Rattle.domain.specs.Model.{Rising}
 use Rattle.domain.specs.declared.refusal.Refusal.{Refusal}
@@ -27,7 +27,7 @@ rank N is = smaller N (length is) + places 1 is
 
 -- the keys of a state with these true atoms
 unfoldable pub tuple_keys : ℕ → ℕ → List ℕ → List ℕ
-tuple_keys N k atoms = map (rank N) (sets_of k (filter (λ a. ltb a N) atoms))
+tuple_keys N k atoms = map (rank N) (sets_of k (filter (λ a. nat_lt a N) atoms))
 
 -- how many keys there are: as many as sets of at most k atoms below N
 abbrev pub tuple_count : ℕ → ℕ → ℕ

@@ -11,6 +11,7 @@ pub(crate) fn is_unmarked(marks: &[u8], key: usize) -> bool
 pub(crate) fn put_mark(marks: &mut [u8], key: usize)
     ensures { marks.new ≡ slice_set marks.old key 1 }
 {
+    // of a write through `get_mut` no proof knows what it left in the table
     if key < marks.len() {
         marks[key] = 1;
     }

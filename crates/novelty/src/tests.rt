@@ -27,11 +27,7 @@ fn refusals(rt: HostRuntime) {
 
 // Of four atoms the true ones are 1 and 3. Atom 7 is none of the four.
 fn one_and_three() -> AtomSet {
-    let mut atoms = AtomSet::empty();
-    atoms.insert(1);
-    atoms.insert(3);
-    atoms.insert(7);
-    atoms
+    AtomSet::of(&[1, 3, 7])
 }
 
 #[test]

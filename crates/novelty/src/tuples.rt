@@ -63,6 +63,7 @@ impl Tuples {
         requires { (state : F) (key : _) → F.pre state key }
         ensures { Tries F.FnMut test.old (tuple_keys self.now.atoms self.now.width (members atoms.now)) result test.new }
     {
+        // a set lists its members into lent memory, since no call allocates
         let mut list = [0; MAX_ATOMS];
         let count = atoms.below(self.atoms).list_members(&mut list);
         Reached::none(self, &list[..count]).any_key(test)
