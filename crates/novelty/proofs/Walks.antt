@@ -105,7 +105,7 @@ module _ {F : Type 0} {g : Mut F (ℕ × Unit {0}) Bool} (table : F → List ℕ
       let e = reads p k false j s in
       tries_novel reads h ∙ ap (novel ks) e.1 ∙ ap (λ b. b || novel ks (table p)) e.0
 
-  pub tries_marked : (name : F → ℕ)
+  tries_marked : (name : F → ℕ)
       → ((p : F) (k : ℕ) (b : Bool) (q : F) → Called g p (k, tt) b q → (b ≡ false) × (table q ≡ set (table p) k 1) × (name q ≡ name p))
       → {ks : List ℕ} {p q : F} {r : Bool} → Tries g p ks r q → (table q ≡ marked ks (table p)) × (name q ≡ name p)
   tries_marked name writes none = (refl, refl)

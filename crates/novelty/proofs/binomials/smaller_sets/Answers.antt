@@ -1,4 +1,4 @@
-use Rattle.std.proofs.Common.{◌≡◌, ◌≤◌, ℕ, List, [], get_or, arith}
+use Rattle.std.proofs.Common.{◌≡◌, ◌≤◌, ℕ, [], get_or, arith}
 use Rattle.novelty.specs.Binomials.{choose}
 use Rattle.novelty.proofs.Pascal.{entry, row_sum}
 use Rattle.novelty.proofs.binomials.smaller_sets.Goals as goal

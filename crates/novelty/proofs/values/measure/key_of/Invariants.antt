@@ -1,4 +1,4 @@
-use Rattle.std.proofs.Common.{◌≡◌, ◌-◌, ◌≤◌, length, drop}
+use Rattle.std.proofs.Common.{◌≡◌, ◌-◌, length, drop}
 use Rattle.domain.specs.Atoms.{members}
 use Rattle.novelty.specs.Values.{value_key}
 use Rattle.novelty.proofs.values.measure.key_of.Given as goal
