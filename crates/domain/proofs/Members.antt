@@ -118,11 +118,3 @@ decides_within s t = decides_members (has t) s
 pub decides_fits : (n : ℕ) (s : AtomSet) → Decides (fits n s) ((a : ℕ) → has s a ≡ true → a < n)
 decides_fits n s =
     Decides-like (fits n s) (λ f a h. ltb-true a n (f a h)) (λ f a h. lt-ltb a n (f a h)) (decides_members (λ a. ltb a n) s)
-
--- a set of atoms below n is within the members below n just where it is within all
-pub within_limited : (n : ℕ) (s t : AtomSet) → fits n s ≡ true → within s (limited t n) ≡ within s t
-within_limited n s t e = go (members s) ((decides_every (λ a. ltb a n) (members s)).0 e)
-  where
-    go : (xs : List ℕ) → AllByRecursion (λ a. ltb a n ≡ true) xs → every (has (limited t n)) xs ≡ every (has t) xs
-    go [] h = refl
-    go (x ∷ xs) h = ap₂ ◌&&◌ (has_limited t n x ∙ and_yes (has t x) (ltb x n) h.0) (go xs h.1)

@@ -80,11 +80,6 @@ has_without s t fits =
     has_wordwise (λ w v. bit_and w (complement v)) (λ x y. x && not y) refl s t
     (λ i j h l. bit_of_and (word s i) (complement (word t i)) j ∙ ap (λ (b : Bool). bit (word s i) j && b) (bit_complement (word t i) j (fits i h) l))
 
-pub has_none : (a : ℕ) → has none a ≡ false
-has_none =
-    has_from_bits none (λ _. false)
-    (λ i j h _. ap (λ (w : ℕ). bit w j) (by_words (λ k. word none k ≡ 0) refl refl refl refl i h) ∙ bit_zero j) (λ _ _. refl)
-
 pub has_limited : (s : AtomSet) (n a : ℕ) → has (limited s n) a ≡ (has s a && ltb a n)
 has_limited s n =
     has_from_bits (limited s n) (λ a. has s a && ltb a n)
