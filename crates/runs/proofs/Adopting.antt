@@ -1,6 +1,6 @@
 -- A segment written into the lent tail of the plan list, and why it is not. Assumes nothing.
 use Rattle.std.proofs.Common.{◌≡◌, ℕ, ◌+◌, ◌-◌, ◌<◌, ◌≤◌, min, Bool, true, false, cond, eqb, ltb, List, ◌++◌, length, take, drop, Some, None, Ok, Option, Result, sym, refl, ap, ◌∙◌, subst, ap₂, ⊎_elim, append_assoc, arith, length-drop, length-take}
-use borrow.Rule.Slice.PartMut.{put_mid, mid_of}
+use borrow.Rule.Slice.PartMut.{put_mid, mid_of, post_of}
 use Rattle.std.proofs.lemmas.List.{take-append-drop, take_at, drop_at, drop-append-le, drop-drop, length-take-le}
 use Rattle.std.proofs.lemmas.Bool.{cases_lt, lt-ltb, le-ltb, ltb-false, cond-true, cond-false, and_parts, eqb-true}
 use Rattle.domain.specs.Model.{Meaning}
@@ -67,7 +67,7 @@ module _ {S M : Type 0} (v : View S M) (w : Way) (count : ℕ) (nodes : List (No
   fault_full l = let short : e < v.length + w.length = omega arith in first_check ∙ cond-true _ _ _ (lt-ltb e (v.length + w.length) short)
 
   -- P is what is searched
-  module _ (used : v.length ≤ e) (P : Meaning S) (same : P ≡ subgoal v) where
+  module _ (P : Meaning S) (same : P ≡ subgoal v) (used : v.length ≤ e) where
     tail_length : length (mid_of v.length (e - v.length) xs) ≡ e - v.length
     tail_length = simp (length-take, length-drop) (omega arith)
 
@@ -83,7 +83,8 @@ module _ {S M : Type 0} (v : View S M) (w : Way) (count : ℕ) (nodes : List (No
 
     pub list_is : (ys : List ℕ)
         → ys ≡ written_list (way_fault P nodes w (length (mid_of v.length (e - v.length) xs))) (actions_of nodes w) (mid_of v.length (e - v.length) xs)
-        → put_mid v.length (e - v.length) xs ys ≡ unless (segment_fault v w count nodes (length xs)) xs (placed xs v.length (actions_of nodes w))
+        → take v.length xs ++ (ys ++ post_of v.length (e - v.length) xs)
+        ≡ unless (segment_fault v w count nodes (length xs)) xs (placed xs v.length (actions_of nodes w))
     list_is ys h =
         ap (put_mid v.length (e - v.length) xs) h
         ∙ go (way_fault P nodes w (length (mid_of v.length (e - v.length) xs))) refl

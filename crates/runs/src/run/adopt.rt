@@ -19,6 +19,7 @@ pub const MAX_STEPS: usize = 4_096;
 
 impl<D: StateModel, M: Measure + Drop> Run<D, M> {
     // Writes a found way into the plan list from its used length on, once it is seen to hold.
+    #[tactic(auto, using(crate::proofs::Adopting::fault_full, crate::proofs::Adopting::reply_is))]
     fn write_segment(
         &self,
         way: &Way,
