@@ -34,6 +34,7 @@ abbrev pub handed : {X C : Type 0} → Option Refusal → C → X → Result X (
 handed (Some e) c x = Err (record { refusal = e; claim = c })
 handed None c x = Ok x
 
+-- a reply, with the claim that is handed back where it is a refusal
 abbrev pub handed_back : {X C : Type 0} → Result X Refusal → C → Result X (Refused C)
 handed_back (Ok x) c = Ok x
 handed_back (Err e) c = Err (record { refusal = e; claim = c })

@@ -18,6 +18,7 @@ pub const MAX_SEARCHES: usize = 65_535;
 
 impl<D: StateModel, M: Measure + Drop> Run<D, M> {
     // Opens a search of the subproblem at the current state by the measure, in the lent memory, and hands out its ticket.
+    // A clause for each thing that a call leaves, and not one over all: callers and histories take each of them alone.
     pub fn begin(
         &mut self,
         measure: M,
