@@ -24,7 +24,9 @@ fn a_set_of_listed_atoms(rt: HostRuntime) {
     assert!(rt; set.contains(3) && set.contains(200) && set.count() == 2);
     assert_eq!(rt; AtomSet::of(&[]), AtomSet::default());
     let idle = Action::default();
-    assert!(rt; idle.preconditions.is_empty() && idle.additions.is_empty() && idle.deletions.is_empty());
+    assert!(rt;
+        idle.preconditions.is_empty() && idle.additions.is_empty() && idle.deletions.is_empty()
+    );
 }
 
 #[test]
