@@ -149,6 +149,7 @@ impl AtomSet {
     }
 
     // Writes the members, rising, from the list's beginning, and tells how many they are.
+    // The list is memory that callers lend, so its filled length is counted beside it.
     pub fn list_members(&self, list: &mut [u16; 256]) -> usize
         ensures value { result ≡ length (members self.now) }
         ensures after { list.new ≡ members self.now ++ drop result list.old }

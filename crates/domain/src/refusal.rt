@@ -55,6 +55,7 @@ impl Refusal {
     }
 
     // The line or place that it carries, the number of rules left, or 0 where it has none.
+    // A number in each case, not an Option: reports print one in that column.
     pub fn place(&self) -> usize
         ensures { result ≡ place_of self.now }
     {
