@@ -54,7 +54,3 @@ SolvesParsed p k before after r = Solves (strips_fault p.atoms p.start p.goal p.
 abbrev pub Answers : Result Parsed ProblemFault → Lists → Lists → Result Report Refusal → Type 0
 Answers (Err f) before after r = Refuses (refusal_of f) before after r
 Answers (Ok p) before after r = (k : Sketch) × (features_of k ≡ p.features) × (rules_of k ≡ p.rules) × SolvesParsed p k before after r
-
--- the row of no search
-abbrev pub unmade_row : Row
-unmade_row = record { number = 0; width = 0; expanded = 0; kept = 0; length = None }

@@ -5,7 +5,8 @@
 ghost use Rattle.std.specs.Prelude.{◌≡◌, ◌≤◌, length, take};
 ghost use Rattle.std.specs.Iterator.{IsFinite};
 ghost use Rattle.problem.specs.Problem.{held, limited_problem};
-ghost use Rattle.report.specs.Answered.{lists, unmade_row, SolvesParsed, Answers};
+ghost use Rattle.report.specs.Answered.{lists, SolvesParsed, Answers};
+ghost use Rattle.solver.specs.Reported.{unmade_row};
 
 use domain::atoms::AtomSet;
 use domain::refusal::Refusal;

@@ -30,7 +30,7 @@ use Rattle.runs.proofs.Replies.{passed, not_broken, no_refusal}
 use Rattle.runs.proofs.Standing.{no_standstill}
 use Rattle.runs.proofs.Ways.{leads_append, runs_below}
 use Rattle.solver.specs.Attempt.{outcome_at, way_at, steps_of, row_of, way_refused, closing_fault, opening_fault, plan_written}
-use Rattle.solver.specs.Reported.{row_at, StubRow, Stubs, Reported}
+use Rattle.solver.specs.Reported.{unmade_row, row_at, StubRow, Stubs, Reported}
 use Rattle.solver.specs.Solve.{Memory, Answer, answer, next_width, report, at_its_end, fault_at, found_at, view_after, memory_after, solve_from, solved}
 use Rattle.solver.specs.declared.report.Ending.TheVariants.{AtTarget, ThirdStub}
 use Rattle.solver.specs.declared.report.Report.{Report}
@@ -93,16 +93,13 @@ module _ {S : Type 0} (P : Meaning S) (sketch : Sketch) (lawful : Lawful P) wher
     pub numbered : (i : ℕ) → i < m → (row_at rows i).number ≡ i + 1
     pub stubs : Stubs P sketch k s rows m
 
-  abbrev blank : Row
-  blank = record { number = 0; width = 0; expanded = 0; kept = 0; length = None }
-
   -- one row more
   module _ (rows : List Row) (m : ℕ) (row : Row) (inside : m < length rows) where
     old_row : (i : ℕ) → i < m → row_at (set rows m row) i ≡ row_at rows i
-    old_row i low = get_or-set_other rows m i row blank (λ e. omega arith)
+    old_row i low = get_or-set_other rows m i row unmade_row (λ e. omega arith)
 
     new_row : (i : ℕ) → i ≡ m → row_at (set rows m row) i ≡ row
-    new_row i e = ap (row_at (set rows m row)) e ∙ get_or-set_same rows m row blank inside
+    new_row i e = ap (row_at (set rows m row)) e ∙ get_or-set_same rows m row unmade_row inside
 
     numbered_more : row.number ≡ m + 1 → ((i : ℕ) → i < m → (row_at rows i).number ≡ i + 1) → (i : ℕ) → i < m + 1 → (row_at (set rows m row) i).number ≡ i + 1
     numbered_more is before i lt =

@@ -10,9 +10,13 @@ use Rattle.solver.specs.declared.report.Ending.TheVariants.{AtTarget, ThirdStub}
 use Rattle.solver.specs.declared.report.Report.{Report}
 use Rattle.solver.specs.declared.report.Row.{Row}
 
+-- the row of no search
+abbrev pub unmade_row : Row
+unmade_row = record { number = 0; width = 0; expanded = 0; kept = 0; length = None }
+
 -- the row at place i
 abbrev pub row_at : List Row → ℕ → Row
-row_at rows i = slice_index_or rows i (record { number = 0; width = 0; expanded = 0; kept = 0; length = None })
+row_at rows i = slice_index_or rows i unmade_row
 
 module _ {S : Type 0} (P : Meaning S) (sketch : Sketch) where
   -- a row is of a search of width w without a find at s, and no set of at most w atoms' keys is admissible for the subproblem there

@@ -35,6 +35,7 @@ pub enum Ending {
 }
 
 // How many rows are written, how many steps the plan has, and why the solver stopped.
+// The lists of rows and steps are the caller's, so only their used lengths are told here.
 #[derive(Clone, Copy, PartialEq, Eq, Debug)]
 pub struct Report {
     pub rows: usize,

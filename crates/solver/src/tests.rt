@@ -35,11 +35,7 @@ fn solve_two(
         atoms: both,
     };
     let sketch = Sketch::new(&[count], &[falls])?;
-    let mut nodes = [Node {
-        state: AtomSet::empty(),
-        parent: 0,
-        action: 0,
-    }; 4];
+    let mut nodes = [Node::unlinked(AtomSet::empty()); 4];
     let mut marks = [0u8; 4];
     solve(model, sketch, &mut nodes, &mut marks, plan, rows)
 }
