@@ -1,24 +1,11 @@
 -- What the code computes of digits. Assumes nothing.
-use Rattle.std.proofs.Common.{◌≡◌, ℕ, ◌+◌, ◌-◌, ◌*◌, ◌&&◌, Bool, true, false, cond, List, [], ◌∷◌, Some, None, Ok, Err, Result, MatchResult, fold, sym, refl, ap, ◌∙◌, arith}
-use Rattle.std.specs.List.{list_all}
-use Rattle.domain.specs.Atoms.{every}
-use Rattle.problem.specs.Numeral.{digit, zero_first, flaw_of, capped, digits_value, judged, numeral}
+use Rattle.std.proofs.Common.{◌≡◌, ℕ, ◌+◌, ◌-◌, ◌*◌, List, [], ◌∷◌, Some, None, Ok, Err, Result, MatchResult, fold, sym, ap, ◌∙◌, arith}
+use Rattle.problem.specs.Numeral.{flaw_of, capped, digits_value, judged, numeral}
 use Rattle.problem.specs.Form.{good_by}
 use Rattle.problem.specs.declared.fault.NumberFault.{NumberFault}
 use Rattle.problem.specs.declared.fault.NumberFlaw.{NumberFlaw}
 use Rattle.std.specs.Result.{IsErrAnd}
 use Rattle.std.proofs.lemmas.Result.{err_from_is_err_and}
-use Rattle.problem.specs.declared.fault.NumberFlaw.TheVariants.{NotDigit}
-
-pub every_all : {X : Type 0} (p : X → Bool) (xs : List X) → every p xs ≡ list_all p xs
-every_all p [] = refl
-every_all p (x ∷ xs) = ap (λ b. p x && b) (every_all p xs)
-
-pub flaw_good : (bs : List ℕ) → true ≡ list_all digit bs → flaw_of bs ≡ zero_first bs
-flaw_good bs e = ap (λ b. cond b (zero_first bs) (Some NotDigit)) (every_all digit bs ∙ sym e)
-
-pub flaw_bad : (bs : List ℕ) → false ≡ list_all digit bs → flaw_of bs ≡ Some NotDigit
-flaw_bad bs e = ap (λ b. cond b (zero_first bs) (Some NotDigit)) (every_all digit bs ∙ sym e)
 
 -- step by step, as a machine counts, and the whole number
 abbrev pub count_on : ℕ → ℕ → ℕ
