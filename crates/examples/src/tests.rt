@@ -9,8 +9,9 @@ use planner::way::write_way;
 use planner::whole::whole_search;
 use std::test::Fail;
 
+// The set of the atoms whose bits are set.
 fn set_of(bits: u8) -> AtomSet {
-    let mut set = AtomSet::empty();
+    let mut set = AtomSet::default();
     for atom in 0..8u8 {
         if (bits >> atom) & 1 == 1 {
             set.insert(atom);
@@ -19,7 +20,7 @@ fn set_of(bits: u8) -> AtomSet {
     set
 }
 
-fn action_of(op: &Op) -> Action {
+fn action_of(op: Op) -> Action {
     Action {
         preconditions: set_of(op.needs),
         additions: set_of(op.adds),
@@ -27,36 +28,17 @@ fn action_of(op: &Op) -> Action {
     }
 }
 
-const BLANK: Op = Op {
-    needs: 0,
-    adds: 0,
-    deletes: 0,
-};
-
 fn unused() -> Node<AtomSet> {
     Node {
-        state: AtomSet::empty(),
+        state: AtomSet::default(),
         parent: 0,
         action: 0,
     }
 }
 
-fn table_of(ops: &[Op; 8]) -> [Action; 8] {
-    [
-        action_of(&ops[0]),
-        action_of(&ops[1]),
-        action_of(&ops[2]),
-        action_of(&ops[3]),
-        action_of(&ops[4]),
-        action_of(&ops[5]),
-        action_of(&ops[6]),
-        action_of(&ops[7]),
-    ]
-}
-
 // A whole search of eight atoms by the sets of at most `width` of them.
 fn searched(ops: &[Op; 8], start: u8, goal: u8, width: usize) -> Result<Reply, Refusal> {
-    let table = table_of(ops);
+    let table = ops.map(action_of);
     let model = Strips::new(8, set_of(start), set_of(goal), &table)?;
     let measure = Tuples::new(8, width)?;
     let mut nodes = [unused(); 128];
@@ -64,16 +46,17 @@ fn searched(ops: &[Op; 8], start: u8, goal: u8, width: usize) -> Result<Reply, R
     whole_search(&model, &measure, &mut nodes, &mut marks)
 }
 
-fn length_of(reply: &Reply) -> usize {
+// The length of the way found, if one was.
+fn length_of(reply: &Reply) -> Option<usize> {
     match reply.outcome {
-        Outcome::Found(way) => way.length(),
-        Outcome::Exhausted | Outcome::Open => 0,
+        Outcome::Found(way) => Some(way.length()),
+        Outcome::Exhausted | Outcome::Open => None,
     }
 }
 
 // Action i needs and deletes atom i and adds the next; the atoms of the chain are an admissible set at width 1.
 fn chain() -> [Op; 8] {
-    let mut ops = [BLANK; 8];
+    let mut ops = [Op::default(); 8];
     for i in 0..7 {
         ops[i] = Op {
             needs: 1 << i,
@@ -88,7 +71,8 @@ fn chain() -> [Op; 8] {
 fn chains_are_found_at_their_shortest(rt: HostRuntime) -> Result<(), Fail> {
     for goal in 1..8u8 {
         let reply = searched(&chain(), 1, 1 << goal, 1)?;
-        assert_eq!(rt; length_of(&reply), plain::shortest(&chain(), 1, 1 << goal));
+        let shortest = plain::shortest(&chain(), 1, 1 << goal);
+        assert!(rt; shortest.is_some() && length_of(&reply) == shortest);
         assert!(rt; reply.expanded == reply.kept);
     }
     Ok(())
@@ -96,7 +80,7 @@ fn chains_are_found_at_their_shortest(rt: HostRuntime) -> Result<(), Fail> {
 
 // Three switches, and a lamp that needs the first two.
 fn switches() -> [Op; 8] {
-    let mut ops = [BLANK; 8];
+    let mut ops = [Op::default(); 8];
     for i in 0..3 {
         ops[i] = Op {
             needs: 0,
@@ -117,31 +101,21 @@ fn two_switches_want_two_atoms_at_a_time(rt: HostRuntime) -> Result<(), Fail> {
     let narrow = searched(&switches(), 0, 8, 1)?;
     assert!(rt; matches!(narrow.outcome, Outcome::Exhausted));
     let wide = searched(&switches(), 0, 8, 2)?;
-    assert_eq!(rt; length_of(&wide), plain::shortest(&switches(), 0, 8));
-    assert_eq!(rt;
-        length_of(&searched(&switches(), 0, 15, 3)?),
-        plain::shortest(&switches(), 0, 15)
-    );
+    let shortest = plain::shortest(&switches(), 0, 8);
+    assert!(rt; shortest.is_some() && length_of(&wide) == shortest);
+    let widest = searched(&switches(), 0, 15, 3)?;
+    let shortest = plain::shortest(&switches(), 0, 15);
+    assert!(rt; shortest.is_some() && length_of(&widest) == shortest);
     Ok(())
 }
 
 #[test]
 fn a_search_does_not_begin_at_a_target(rt: HostRuntime) {
+    assert_eq!(rt; searched(&chain(), 1, 1, 1).err(), Some(Refusal::AtTarget));
     assert_eq!(rt;
-        refusal_of(searched(&chain(), 1, 1, 1)),
-        Some(Refusal::AtTarget)
-    );
-    assert_eq!(rt;
-        refusal_of(searched(&chain(), 1, 2, 4)),
+        searched(&chain(), 1, 2, 4).err(),
         Some(Refusal::Range { place: 0 })
     );
-}
-
-fn refusal_of(res: Result<Reply, Refusal>) -> Option<Refusal> {
-    match res {
-        Ok(_) => None,
-        Err(refusal) => Some(refusal),
-    }
 }
 
 #[test]
@@ -153,7 +127,7 @@ fn no_actions_and_many_actions(rt: HostRuntime) -> Result<(), Fail> {
     let empty = Strips::new(2, none, set_of(1), &[])?;
     let reply = whole_search(&empty, &measure, &mut nodes, &mut marks)?;
     assert!(rt; reply.expanded == 1 && reply.kept == 1);
-    let table = [action_of(&BLANK); 1024];
+    let table = [action_of(Op::default()); 1024];
     let idle = Strips::new(2, none, set_of(1), &table)?;
     let reply = whole_search(&idle, &measure, &mut nodes, &mut marks)?;
     assert!(rt; matches!(reply.outcome, Outcome::Exhausted) && reply.kept == 1);
@@ -168,48 +142,46 @@ fn few_places_are_refused(rt: HostRuntime) -> Result<(), Fail> {
     let mut nodes = [unused(); 4];
     let mut marks = [7u8; 3];
     let result = whole_search(&model, &measure, &mut nodes, &mut marks);
-    assert_eq!(rt; refusal_of(result), Some(Refusal::FewPlaces));
+    assert_eq!(rt; result.err(), Some(Refusal::FewPlaces));
     assert!(rt; marks[0] == 7 && marks[1] == 7 && marks[2] == 7);
     Ok(())
 }
 
 // Finds the way of the chain of three atoms, has a foreign hand write `action` into its first link, and writes the way
-// into the list: the number of the refusal, or 0.
-fn written(action: usize, list: &mut [usize]) -> Result<usize, Refusal> {
-    let table = [action_of(&chain()[0]), action_of(&chain()[1])];
+// into the list: its length, if one was found.
+fn written(action: usize, list: &mut [usize]) -> Result<Option<usize>, Refusal> {
+    let table = [action_of(chain()[0]), action_of(chain()[1])];
     let model = Strips::new(3, set_of(1), set_of(4), &table)?;
     let measure = Tuples::new(3, 1)?;
     let mut nodes = [unused(); 4];
     let mut marks = [0u8; 4];
     let reply = whole_search(&model, &measure, &mut nodes, &mut marks)?;
     nodes[1].action = action;
-    match reply.outcome {
-        Outcome::Found(way) => write_way(&model, &nodes, &way, list),
-        Outcome::Exhausted | Outcome::Open => Ok(0),
-    }
+    let Outcome::Found(way) = reply.outcome else {
+        return Ok(None);
+    };
+    Ok(Some(write_way(&model, &nodes, &way, list)?))
 }
 
-fn refusal_number(res: Result<usize, Refusal>) -> usize {
-    match res {
-        Ok(_) => 0,
-        Err(refusal) => refusal.number(),
-    }
+// The number of the refusal, if it was refused.
+fn refusal_number(written: Result<Option<usize>, Refusal>) -> Option<usize> {
+    written.err().map(|refusal| refusal.number())
 }
 
 // A way whose nodes a foreign hand has changed is refused, and so is one that the list has no room for.
 #[test]
 fn a_broken_way_is_refused(rt: HostRuntime) {
     let mut list = [9; 3];
-    assert_eq!(rt; refusal_number(written(1, &mut list)), 12);
+    assert_eq!(rt; refusal_number(written(1, &mut list)), Some(12));
     assert!(rt; list[0] == 9 && list[1] == 9 && list[2] == 9);
     let mut short = [9; 1];
-    assert_eq!(rt; refusal_number(written(0, &mut short)), 11);
+    assert_eq!(rt; refusal_number(written(0, &mut short)), Some(11));
     assert!(rt; short[0] == 9);
 }
 
 #[test]
 fn a_way_is_written(rt: HostRuntime) {
     let mut list = [9; 3];
-    assert_eq!(rt; refusal_number(written(0, &mut list)), 0);
+    assert_eq!(rt; refusal_number(written(0, &mut list)), None);
     assert!(rt; list[0] == 0 && list[1] == 1 && list[2] == 9);
 }
