@@ -1,5 +1,6 @@
 // A subproblem: any model from one of its states on, until a target of the model or a subgoal of a sketch is met.
 ghost use Rattle.std.specs.Prelude.{◌≡◌};
+ghost use Rattle.sketch.specs.Sketch.{accepts_step};
 ghost use Rattle.sketch.specs.Subproblem.{subproblem, subproblem_lawful};
 
 use crate::sketch::Sketch;
@@ -23,6 +24,15 @@ impl<'a, D: StateModel> Subproblem<'a, D> {
             sketch,
             origin,
         }
+    }
+
+    // Whether some rule of the sketch accepts the step from the origin to a state.
+    fn is_subgoal(&self, state: D::State) -> bool
+        ensures { result ≡ accepts_step self.now.sketch.now ((D.meaning self.now.below.now).truths self.now.origin) ((D.meaning self.now.below.now).truths state) }
+    {
+        let from = self.below.truths(self.origin);
+        let to = self.below.truths(state);
+        self.sketch.accepts(&from, &to)
     }
 }
 
@@ -50,9 +60,7 @@ impl<'a, D: StateModel> StateModel for Subproblem<'a, D> {
     }
 
     fn is_target(&self, state: D::State) -> bool {
-        let from = self.below.truths(self.origin);
-        let to = self.below.truths(state);
-        self.below.is_target(state) || self.sketch.accepts(&from, &to)
+        self.below.is_target(state) || self.is_subgoal(state)
     }
 
     fn applies(&self, state: D::State, action: usize) -> bool {
