@@ -1,11 +1,13 @@
 // One novelty search: the kernel, over any state model and any measure, of whose keys there are `count`.
-ghost use Rattle.std.specs.Prelude.{◌≡◌, ◌+◌, ◌^◌, ◌<◌, ◌≤◌, length};
+ghost use Rattle.std.specs.Prelude.{◌≡◌, ◌+◌, ◌^◌, ◌<◌, ◌≤◌, false, true, length, MatchResult};
+ghost use Rattle.domain.specs.declared.refusal.Refusal.TheVariants.{FewPlaces};
 ghost use Rattle.planner.specs.Search.{snap, given, tried, tried_from, expand_next, goes_on, advanced, begun};
 ghost use Rattle.planner.specs.Stepwise.{lacks};
 
 use crate::node::{Link, Node, Progress};
 use crate::task::Task;
 use domain::model::StateModel;
+use domain::refusal::Refusal;
 use novelty::measure::Measure;
 
 // Nodes, marks and progress are lent one by one: with a struct of them each contract would also say, of either slice,
@@ -24,11 +26,14 @@ impl<'a, D: StateModel, M: Measure> Task<'a, D, M> {
         }
     }
 
-    // Whether there are fewer places for states or for marks than keys.
-    pub(crate) fn lacks_places(&self, nodes: &[Node<D::State>], marks: &[u8]) -> bool
-        ensures { result ≡ lacks self.now.count (length nodes.now) (length marks.now) }
+    // Refuses memory with fewer places for states or for marks than keys.
+    pub(crate) fn check_places(&self, nodes: &[Node<D::State>], marks: &[u8]) -> Result<(), Refusal>
+        ensures { MatchResult result (λ _. lacks self.now.count (length nodes.now) (length marks.now) ≡ false) (λ e. (lacks self.now.count (length nodes.now) (length marks.now) ≡ true) × (e ≡ FewPlaces)) }
     {
-        nodes.len() < self.count || marks.len() < self.count
+        if nodes.len() < self.count || marks.len() < self.count {
+            return Err(Refusal::FewPlaces);
+        }
+        Ok(())
     }
 
     // Tries one action in `state`, the state of the number under expansion.

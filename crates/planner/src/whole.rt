@@ -69,9 +69,7 @@ pub fn whole_search<D: StateModel, M: Measure>(
         return Err(Refusal::AtTarget);
     }
     let task = Task::new(model, measure);
-    if task.lacks_places(nodes, marks) {
-        return Err(Refusal::FewPlaces);
-    }
+    task.check_places(nodes, marks)?;
     let progress = search_to_end(&task, nodes, marks);
     Ok(reply(nodes, &progress))
 }

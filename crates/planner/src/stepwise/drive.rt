@@ -27,9 +27,7 @@ impl<M: Measure + Drop> Search<M> {
         ensures marks { marks.new ≡ (if lacks (M.total measure) (length nodes.old) (length marks.old) then marks.old else (begun (task (D.meaning model.now) (M.keys measure) (M.total measure)) nodes.old marks.old).marks) }
     {
         let task = Task::new(model, &measure);
-        if task.lacks_places(nodes, marks) {
-            return Err(Refusal::FewPlaces);
-        }
+        task.check_places(nodes, marks)?;
         let count = task.count;
         let progress = task.begin(nodes, marks);
         Ok(Search {
@@ -59,9 +57,7 @@ impl<M: Measure + Drop> Search<M> {
             measure: &self.measure,
             count: self.count,
         };
-        if task.lacks_places(nodes, marks) {
-            return Err(Refusal::FewPlaces);
-        }
+        task.check_places(nodes, marks)?;
         task.advance(nodes, marks, &mut self.progress, budget);
         let told = reply(nodes, &self.progress);
         self.outcome = told.outcome;

@@ -1,4 +1,4 @@
-use Rattle.std.proofs.Common.{◌≤◌, ltb, length, sym, arith}
+use Rattle.std.proofs.Common.{◌≤◌, ltb, length, arith}
 use Rattle.std.proofs.lemmas.Bool.{or_parts, ltb-false}
 use Rattle.planner.specs.Search.{task}
 use Rattle.planner.proofs.Bounds.{bounds_after, within_from}
@@ -9,7 +9,7 @@ reply-told-requires g c =
     let s = c.self.inside in
     let Q = task (g.D.StateModel.meaning c.args.model.now) (g.M.Measure.keys s.measure) s.count in
     let after = bounds_after Q _ _ _ _ _ s.progress _ c.self.invariant c.advance.ensures in
-    let enough = or_parts (ltb (length c.args.nodes.now) s.count) (ltb (length c.args.marks.now) s.count) (sym c.if-lacks_places.ensures) in
+    let enough = or_parts (ltb (length c.args.nodes.now) s.count) (ltb (length c.args.marks.now) s.count) c.in_ok-check_places.ensures in
     let long : s.count ≤ length c.advance.new.nodes = let le = ltb-false _ _ enough.0 in omega arith in
     within_from s.count _ _ after.within long
 
