@@ -48,10 +48,9 @@ pub(crate) fn three_fields<'a>(bytes: &'a [u8]) -> Option<(&'a [u8], &'a [u8], &
 {
     let (first, rest) = split_field(bytes)?;
     let (second, third) = split_field(rest)?;
-    match split_field(third) {
-        None => Some((first, second, third)),
-        Some(_) => None,
-    }
+    split_field(third)
+        .is_none()
+        .then_some((first, second, third))
 }
 
 // The fields, if they are four.
