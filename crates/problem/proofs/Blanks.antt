@@ -1,13 +1,10 @@
 -- The tables with what was not named, and one above the highest number that was. Assumes nothing.
-use Rattle.std.proofs.Common.{◌≡◌, ℕ, zero, suc, ◌+◌, ◌-◌, ◌<◌, ◌≤◌, max, Bool, true, false, not, cond, eqb, ltb, List, [], ◌∷◌, length, set, reverse, map, Some, None, Option, MatchOption, is_some, sym, refl, ap, ◌∙◌, ⊎_elim, arith}
+use Rattle.std.proofs.Common.{◌≡◌, ℕ, zero, suc, ◌+◌, ◌<◌, ◌≤◌, max, Bool, true, false, cond, ltb, List, [], ◌∷◌, length, set, map, Some, None, Option, MatchOption, is_some, slice_index_or, sym, refl, ap, ◌∙◌, ⊎_elim, arith}
 use Rattle.std.specs.Array.{IsMapOf}
 use Rattle.std.specs.Fn.{Called}
-use Rattle.std.specs.List.{list_any, position, position_or_len}
-use Rattle.std.proofs.lemmas.Bool.{cases_lt, lt-ltb, le-ltb, eq-eqb, ne_eqb}
-use Rattle.std.proofs.lemmas.List.{same_lists, length-map, length-reverse, reverse-append, get_or-map}
-use Rattle.std.proofs.lemmas.List.Folds.{position_or_len_push}
-use Rattle.std.proofs.lemmas.List.Sums.{prefix_len-le-length}
-use Rattle.std.proofs.lemmas.Option.{cond_some, none-some}
+use Rattle.std.specs.List.{list_any}
+use Rattle.std.proofs.lemmas.Bool.{cases_lt, lt-ltb, le-ltb}
+use Rattle.std.proofs.lemmas.List.{same_lists, length-map, get_or-map}
 use denote.Param.Members.{Mut}
 use Rattle.problem.specs.Tables.{one_past, feature_count, rule_count, feature_added, rule_added}
 use Rattle.problem.specs.declared.tables.FeatureRow.{FeatureRow}
@@ -22,37 +19,34 @@ mapped v none xs ys n e h calls =
     same_lists ys (map v xs) (h.long ∙ e ∙ sym (length-map xs v))
     (λ k d l. let call = h.at k none d (omega (arith, h.long)) in calls call.0 _ _ call.1 call.2 ∙ sym (get_or-map v xs k none d (omega (arith, h.long))))
 
--- one above the last that passes, with k one above the last behind the first, of n, of which the q last do not pass
-last_one : (b : Bool) (n : ℕ) → cond b 1 0 ≡ suc n - (n + cond b 0 1)
-last_one true n = omega arith
-last_one false n = omega arith
+-- one above the last that is true, as the code finds it
+none_true : (bs : List Bool) → ((k : ℕ) → k < length bs → slice_index_or bs k true ≡ false) → one_past (λ b. b) bs ≡ 0
+none_true [] h = refl
+none_true (b ∷ bs) h =
+    let first : b ≡ false = h 0 (omega arith) in
+    let rest = none_true bs (λ k l. h (suc k) (omega arith)) in
+    simp (first, rest) refl
 
-first_more : (b : Bool) (k q n : ℕ) → q ≤ n → k ≡ n - q → cond (ltb 0 k) (1 + k) (cond b 1 0) ≡ suc n - cond (eqb q n) (n + cond b 0 1) q
-first_more b k q n low e =
-    ⊎_elim
-    (λ l. let a = lt-ltb 0 k l in let c : eqb q n ≡ false = ne_eqb q n (λ g. omega arith) in simp (a, c) (omega arith))
-    (λ l. let a = le-ltb 0 k l in let c : eqb q n ≡ true = eq-eqb q n (omega arith) in simp (a, c) (last_one b n))
-    (cases_lt 0 k)
+last_true : (bs : List Bool) (i : ℕ) → i < length bs → slice_index_or bs i false ≡ true → ((k : ℕ) → i < k → k < length bs → slice_index_or bs k true ≡ false) → one_past (λ b. b) bs ≡ i + 1
+last_true [] i l e h = absurd (omega arith)
+last_true (b ∷ bs) zero l e h =
+    let first : b ≡ true = e in
+    let rest = none_true bs (λ k l. h (suc k) (omega arith) (omega arith)) in
+    simp (first, rest) refl
+last_true (b ∷ bs) (suc i) l e h =
+    let rest = last_true bs i (omega arith) e (λ k m l. h (suc k) (omega arith) (omega arith)) in
+    let some = lt-ltb 0 (one_past (λ b. b) bs) (omega (arith, rest)) in
+    simp some (omega (arith, rest))
 
-one_past_is : {X : Type 0} (p : X → Bool) (xs : List X) → one_past p xs ≡ length xs - position_or_len p (reverse xs)
-one_past_is p [] = omega arith
-one_past_is p (x ∷ xs) =
-    let q = position_or_len p (reverse xs) in
-    let long = length-reverse xs in
-    let low : q ≤ length (reverse xs) = prefix_len-le-length (λ y. not (p y)) (reverse xs) in
-    first_more (p x) (one_past p xs) q (length xs) (omega (arith, low, long)) (one_past_is p xs)
-    ∙ ap (λ (m : ℕ). suc (length xs) - m) (sym (ap (position_or_len p) (reverse-append (x ∷ []) xs) ∙ position_or_len_push p (reverse xs) x ∙ ap (λ (m : ℕ). cond (eqb q m) (m + cond (p x) 0 1) q) long))
+pub found_past : (bs : List Bool) (r : Option ℕ) (m : ℕ)
+    → MatchOption r ((k : ℕ) → k < length bs → slice_index_or bs k true ≡ false) (λ i. (i < length bs) × (slice_index_or bs i false ≡ true) × ((k : ℕ) → i < k → k < length bs → slice_index_or bs k true ≡ false))
+    → MatchOption r (m ≡ 0) (λ i. m ≡ i + 1) → m ≡ one_past (λ b. b) bs
+found_past bs None m h e = e ∙ sym (none_true bs h)
+found_past bs (Some i) m h e = e ∙ sym (last_true bs i h.0 h.1 h.2)
 
--- as the code counts
-pub counted : {X : Type 0} (p : X → Bool) (xs : List X) (r : Option ℕ) (m : ℕ) → r ≡ position p (reverse xs) → MatchOption r (m ≡ 0) (λ behind. m ≡ length xs - behind) → m ≡ one_past p xs
-counted p xs None m e h =
-    ⊎_elim
-    (λ l. absurd (none-some _ (e ∙ ap (λ t. cond t (Some (position_or_len p (reverse xs))) None) (lt-ltb _ _ l))))
-    (λ l. omega (arith, one_past_is p xs, length-reverse xs, h))
-    (cases_lt (position_or_len p (reverse xs)) (length (reverse xs)))
-counted p xs (Some behind) m e h =
-    let found = cond_some (ltb (position_or_len p (reverse xs)) (length (reverse xs))) _ behind (sym e) in
-    omega (arith, one_past_is p xs, found.1, h)
+pub one_past_map : {X : Type 0} (p : X → Bool) (xs : List X) → one_past (λ b. b) (map p xs) ≡ one_past p xs
+one_past_map p [] = refl
+one_past_map p (x ∷ xs) = ap (λ (n : ℕ). cond (ltb 0 n) (1 + n) (cond (p x) 1 0)) (one_past_map p xs)
 
 -- what one item changes
 at_most : (b : Bool) (k : ℕ) → cond (ltb 0 k) (1 + k) (cond b 1 0) ≤ 1 + k

@@ -1,7 +1,7 @@
 // The tables of a text as they are filled, and what one line adds to each.
-ghost use Rattle.std.specs.Prelude.{◌≡◌, ◌<◌, ◌≤◌, position, reverse, is_some};
+ghost use Rattle.std.specs.Prelude.{◌≡◌, ◌<◌, ◌≤◌, length, is_some};
 ghost use Rattle.std.specs.List.{list_any};
-ghost use Rattle.problem.specs.Tables.{no_atoms, no_features, no_rules, feature_count, rule_count, rule_of, features_with_blanks, rules_with_blanks, atom_added, action_added, feature_added, rule_added, other_kind, both_named, with_role};
+ghost use Rattle.problem.specs.Tables.{no_atoms, no_features, no_rules, one_past, feature_count, rule_count, rule_of, features_with_blanks, rules_with_blanks, atom_added, action_added, feature_added, rule_added, other_kind, both_named, with_role};
 
 use crate::role::Role;
 use domain::atoms::AtomSet;
@@ -109,6 +109,17 @@ impl ActionRow {
     }
 }
 
+// One above the last that is true, or 0 where none is.
+fn one_past(named: &[bool]) -> usize
+    ensures value { result ≡ one_past (λ b. b) named.now }
+    ensures below { result ≤ length named.now }
+{
+    named
+        .iter()
+        .rposition(|named| *named)
+        .map_or(0, |last| last + 1)
+}
+
 impl FeatureTable {
     pub(crate) fn new() -> FeatureTable
         ensures { result ≡ no_features }
@@ -118,22 +129,12 @@ impl FeatureTable {
         }
     }
 
-    // How many numbers stand behind the highest that was named.
-    fn behind(&self) -> Option<usize>
-        ensures { result ≡ position is_some (reverse self.now.features) }
-    {
-        self.features
-            .iter()
-            .rev()
-            .position(|feature| feature.is_some())
-    }
-
     // One above the highest number that was named.
     pub(crate) fn count(&self) -> usize
         ensures value { result ≡ feature_count self.now }
         ensures below { result ≤ 8 }
     {
-        self.behind().map_or(0, |behind| 8 - behind)
+        one_past(&self.features.map(|feature| feature.is_some()))
     }
 
     // All features: those that were not named are blank.
@@ -165,8 +166,8 @@ impl FeatureTable {
 }
 
 // Whether a rule was named, by what was said of each feature.
-fn is_named(entries: &[Option<Entry>; 8]) -> bool
-    ensures { result ≡ list_any is_some entries.now }
+fn is_named(entries: [Option<Entry>; 8]) -> bool
+    ensures { result ≡ list_any is_some entries }
 {
     entries.iter().any(|entry| entry.is_some())
 }
@@ -194,22 +195,12 @@ impl RuleTable {
         }
     }
 
-    // How many numbers stand behind the highest that was named.
-    fn behind(&self) -> Option<usize>
-        ensures { result ≡ position (list_any is_some) (reverse self.now.entries) }
-    {
-        self.entries
-            .iter()
-            .rev()
-            .position(|entries| is_named(entries))
-    }
-
     // One above the highest number that was named.
     pub(crate) fn count(&self) -> usize
         ensures value { result ≡ rule_count self.now }
         ensures below { result ≤ 16 }
     {
-        self.behind().map_or(0, |behind| 16 - behind)
+        one_past(&self.entries.map(is_named))
     }
 
     // All rules: those that were not named say nothing.
