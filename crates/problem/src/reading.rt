@@ -105,6 +105,7 @@ pub(crate) fn read_lines(
 {
     let mut reader = Reader::new(limit);
     let mut lines = Lines::new(text);
+    // A `for` over `&mut lines` or `lines.by_ref()` gets no proof of what `lines.number()` is behind it.
     while let Some(line) = lines.next() {
         let row = reader.advance(&line)?;
         place(row, places);

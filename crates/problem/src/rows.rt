@@ -8,12 +8,15 @@ use crate::fault::{LineFault, Table};
 use crate::form::{read_four, read_three};
 use crate::line::Line;
 use crate::role::Role;
-use crate::tables::{ActionRow, AtomRow, FeatureRow, FeatureTable, RuleRow, RuleTable};
+use crate::tables::{
+    ActionRow, AtomRow, FeatureRow, FeatureTable, MAX_FEATURES, MAX_RULES, RuleRow, RuleTable,
+};
 use domain::model::MAX_ATOMS;
 use sketch::feature::Kind;
 use sketch::letter::UnknownLetter;
 use sketch::rule::{Condition, Effect, Entry};
 
+// The checks take the number of the line alone, and no `Line`: they read no bytes, and every fault holds it as `line`.
 // The truth value that a number stands for.
 fn check_truth(line: usize, column: usize, number: usize) -> Result<bool, LineFault>
     ensures { result ≡ truth line column number }
@@ -109,7 +112,7 @@ fn check_feature(
     if atom >= atoms {
         return Err(LineFault::NoSuchAtom { line });
     }
-    if feature >= 8 {
+    if feature >= MAX_FEATURES {
         return Err(LineFault::Full {
             line,
             table: Table::Features,
@@ -150,7 +153,7 @@ fn check_rule(
         return Err(LineFault::NoSuchFeature { line });
     }
     let entry = check_entry(line, when, then)?;
-    if rule >= 16 {
+    if rule >= MAX_RULES {
         return Err(LineFault::Full {
             line,
             table: Table::Rules,

@@ -9,6 +9,10 @@ use domain::strips::Action;
 use sketch::feature::{Feature, Kind};
 use sketch::rule::{Condition, Effect, Entry, Rule};
 
+pub(crate) const MAX_FEATURES: usize = 8;
+
+pub(crate) const MAX_RULES: usize = 16;
+
 // Whether the next atom is true at the start, and whether it is a goal.
 #[derive(Clone, Copy)]
 pub struct AtomRow {
@@ -50,13 +54,13 @@ pub struct AtomTable {
 // The features that were named, at their numbers.
 #[derive(Clone, Copy)]
 pub struct FeatureTable {
-    pub features: [Option<Feature>; 8],
+    pub features: [Option<Feature>; MAX_FEATURES],
 }
 
 // What was said of each rule and each feature.
 #[derive(Clone, Copy)]
 pub struct RuleTable {
-    pub entries: [[Option<Entry>; 8]; 16],
+    pub entries: [[Option<Entry>; MAX_FEATURES]; MAX_RULES],
 }
 
 impl AtomTable {
@@ -104,6 +108,7 @@ impl ActionRow {
         ensures { actions.new ≡ action_added actions.old self.now }
     {
         if self.action < actions.len() {
+            // by index: a write through what `get_mut` gives tells the proof nothing of the elements
             actions[self.action] = self.given_to(actions[self.action]);
         }
     }
@@ -125,7 +130,7 @@ impl FeatureTable {
         ensures { result ≡ no_features }
     {
         FeatureTable {
-            features: [None; 8],
+            features: [None; MAX_FEATURES],
         }
     }
 
@@ -138,7 +143,7 @@ impl FeatureTable {
     }
 
     // All features: those that were not named are blank.
-    pub(crate) fn all(&self) -> [Feature; 8]
+    pub(crate) fn all(&self) -> [Feature; MAX_FEATURES]
         ensures { result ≡ features_with_blanks self.now }
     {
         self.features
@@ -149,7 +154,7 @@ impl FeatureTable {
     pub(crate) fn has_other_kind(&self, feature: usize, kind: Kind) -> bool
         ensures { result ≡ other_kind self.now feature kind }
     {
-        feature < 8 && self.features[feature].is_some_and(|named| named.kind != kind)
+        feature < MAX_FEATURES && self.features[feature].is_some_and(|named| named.kind != kind)
     }
 
     pub(crate) fn add(&mut self, row: FeatureRow)
@@ -166,14 +171,14 @@ impl FeatureTable {
 }
 
 // Whether a rule was named, by what was said of each feature.
-fn is_named(entries: [Option<Entry>; 8]) -> bool
+fn is_named(entries: [Option<Entry>; MAX_FEATURES]) -> bool
     ensures { result ≡ list_any is_some entries }
 {
     entries.iter().any(|entry| entry.is_some())
 }
 
 // The rule of what was said of each feature: of the others it says nothing.
-fn rule_of(entries: [Option<Entry>; 8]) -> Rule
+fn rule_of(entries: [Option<Entry>; MAX_FEATURES]) -> Rule
     ensures { result ≡ rule_of entries }
 {
     Rule {
@@ -191,7 +196,7 @@ impl RuleTable {
         ensures { result ≡ no_rules }
     {
         RuleTable {
-            entries: [[None; 8]; 16],
+            entries: [[None; MAX_FEATURES]; MAX_RULES],
         }
     }
 
@@ -204,7 +209,7 @@ impl RuleTable {
     }
 
     // All rules: those that were not named say nothing.
-    pub(crate) fn all(&self) -> [Rule; 16]
+    pub(crate) fn all(&self) -> [Rule; MAX_RULES]
         ensures { result ≡ rules_with_blanks self.now }
     {
         self.entries.map(rule_of)
@@ -214,7 +219,7 @@ impl RuleTable {
     pub(crate) fn has_both(&self, rule: usize, feature: usize) -> bool
         ensures { result ≡ both_named self.now rule feature }
     {
-        rule < 16 && feature < 8 && self.entries[rule][feature].is_some()
+        rule < MAX_RULES && feature < MAX_FEATURES && self.entries[rule][feature].is_some()
     }
 
     pub(crate) fn add(&mut self, row: RuleRow)
