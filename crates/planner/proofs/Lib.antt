@@ -8,7 +8,6 @@ pub mod Keeping
 pub mod Lawful
 pub mod Links
 pub mod Marking
-pub mod Runs
 pub mod Steps
 pub mod Tally
 pub mod Searched

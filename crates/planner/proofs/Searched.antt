@@ -1,16 +1,15 @@
 -- A whole search that was not refused, as a search by the sets of at most k atoms. Assumes nothing.
-use Rattle.std.proofs.Common.{◌≡◌, ℕ, zero, suc, ◌+◌, ◌<◌, Bool, true, false, cond, ◌||◌, ltb, List, [], ◌∷◌, length, get_or, set, Some, None, Ok, Err, Option, Result, sym, refl, ap, ◌∙◌, subst, ap₂, ⊎_elim, arith}
+use Rattle.std.proofs.Common.{◌≡◌, ℕ, ◌+◌, ◌<◌, Bool, true, false, cond, ltb, List, length, get_or, set, Some, None, Ok, Err, Option, Result, sym, refl, ap, ◌∙◌, subst, ⊎_elim, arith}
 use Rattle.std.proofs.lemmas.List.{get_or-set_same, get_or-set_other}
 use Rattle.std.proofs.lemmas.Bool.{cases_eq, ltb-true, cond-true}
 use Rattle.domain.specs.Model.{Meaning}
-use Rattle.domain.specs.declared.refusal.Refusal.TheVariants.{AtTarget, FewPlaces, PlanFull, BrokenWay}
-use Rattle.novelty.specs.Tuples.{tuple_count, tuples_fault}
+use Rattle.domain.specs.declared.refusal.Refusal.TheVariants.{PlanFull, BrokenWay}
 use Rattle.domain.specs.declared.refusal.Refusal.{Refusal}
 use Rattle.planner.specs.Findings.{WholeFindings}
 use Rattle.planner.specs.Search.{Task, Snapshot}
 use Rattle.planner.specs.Whole.{at_end, reply_of, search_fault, search_reply, search_nodes}
 use Rattle.planner.specs.Way.{way_holds, way_fault, written_reply}
-use Rattle.planner.specs.Widths.{first_fault, tuple_task, width_fault, Searched, ExhaustedBelow, UnmadeFrom}
+use Rattle.planner.specs.Widths.{tuple_task, Searched, ExhaustedBelow, UnmadeFrom}
 use Rattle.planner.specs.declared.node.Node.{Node}
 use Rattle.planner.specs.declared.node.Reply.{Reply}
 use Rattle.planner.specs.declared.node.Way.{Way}
@@ -47,22 +46,6 @@ searched_from P k Q is nodes end marks r reply value left found ok =
       left = l ∙ done.2;
       findings = subst (λ T. WholeFindings T nodes marks end reply) (sym is) (found reply ok);
     }
-
--- a search that was refused, by its fault
-pub refused_by : {S : Type 0} (f : Option Refusal) (g : Snapshot S) (e : Refusal) → search_reply f g ≡ Err e → f ≡ Some e
-refused_by (Some x) g e h = cc
-refused_by None g e h = let z : ◌≡◌ {A = ℕ} 0 1 = cc in absurd (omega arith)
-
--- whether a search can be had turns on how many nodes and marks there are, not on what they hold
-pub fault_by_length : {S : Type 0} (P : Meaning S) (k : ℕ) (nodes other : List (Node S)) (marks more : List ℕ)
-    → length nodes ≡ length other → length marks ≡ length more → width_fault P k nodes marks ≡ width_fault P k other more
-fault_by_length P k nodes other marks more n m =
-    ap₂
-    (λ a b.
-    first_fault (tuples_fault P.atoms k)
-    (cond (P.target P.start) (Some AtTarget)
-    (cond (ltb a (tuple_count P.atoms k) || ltb b (tuple_count P.atoms k)) (Some FewPlaces) None)))
-    n m
 
 -- a whole search ends found or exhausted
 pub ended_exhausted : (o : Outcome) → ((w : Way) → o ≡ Found w → ⊥) → (o ≡ Open → ⊥) → o ≡ Exhausted
@@ -101,13 +84,6 @@ exhausted_more P k replies r end within before here out j lt =
     let old = before j (omega arith) in
     (old.0, old.1, get_or-set_other replies k j (Some r) None other ∙ old.2, old.3, old.4))
     (cases_eq j k)
-
--- at first no search is made
-pub unmade_first : (k : ℕ) → get_or {A = Option Reply} (None ∷ None ∷ None ∷ []) k None ≡ None
-unmade_first zero = refl
-unmade_first (suc zero) = refl
-unmade_first (suc (suc zero)) = refl
-unmade_first (suc (suc (suc k))) = refl
 
 -- writing the reply of k leaves those below it,
 pub exhausted_same : {S : Type 0} (P : Meaning S) (k : ℕ) (replies : List (Option Reply)) (r : Reply) → ExhaustedBelow P k replies

@@ -1,6 +1,5 @@
 -- What one step of a search leaves: the lemmas that the loops of the kernel go by. Assumes nothing.
 use Rattle.std.proofs.Common.{◌≡◌, ℕ, zero, suc, ◌+◌, ◌-◌, ◌<◌, ◌≤◌, Bool, true, false, cond, ◌&&◌, ltb, List, [], ◌∷◌, length, is_some, sym, refl, ap, ◌∙◌, not-suc-le-zero, arith}
-use native.Mathlib.Nat.{sub-zero}
 use Rattle.std.specs.List.{AllByRecursion}
 use Rattle.std.proofs.lemmas.Bool.{both_ways, cond_both, cond-true, cond-false, and_parts, ltb-true}
 use Rattle.novelty.specs.Marks.{novel}
@@ -101,9 +100,6 @@ module _ {S : Type 0} (Q : Task S) where
   pub advanced_all : (g : Snapshot S) (a n : ℕ) → n ≤ a → advanced Q (n - a) g ≡ g
   unfolding advanced
   advanced_all g a n past = let e : n - a ≡ 0 = omega arith in ap (λ k. advanced Q k g) e
-
-  pub advanced_first : (n : ℕ) (g : Snapshot S) → advanced Q n g ≡ advanced Q (n - 0) g
-  advanced_first n g = ap (λ k. advanced Q k g) (sym (sub-zero n))
 
   -- a search that still goes on has expanded as many states as it was given
   pub advanced_used : (n : ℕ) (g : Snapshot S) → let h = advanced Q n g in goes_on h.met h.expanded h.kept ≡ true → h.expanded ≡ g.expanded + n

@@ -23,7 +23,8 @@ fn lower<S>(nodes: &[Node<S>], number: usize) -> Option<usize>
 }
 
 // Follows the links from number `from` back to 0, or to a link that is not to a lower number. One walk tells both, how
-// many links there are and where they end; so it is a loop, and no chain that would count or look for the last.
+// many links there are and where they end. It is a loop, since `count` and `last` ask for an iterator that ends, and
+// `successors` is endless by its contract.
 pub(crate) fn trace_back<S>(nodes: &[Node<S>], from: usize) -> Traced
     requires { from < length nodes.now }
     ensures links { result.links ≡ length (way_to nodes.now from from) }

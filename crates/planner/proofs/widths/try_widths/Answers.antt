@@ -3,29 +3,8 @@ use Rattle.std.proofs.lemmas.List.{get_or-set_same}
 use Rattle.std.proofs.lemmas.Result.{err_from_is_err_and}
 use Rattle.planner.specs.Way.{actions_of, written_list}
 use Rattle.planner.specs.Widths.{ExhaustedBelow}
-use Rattle.planner.proofs.Searched.{refused_by, fault_by_length, ended_exhausted, full_by, written_by, written_ok, exhausted_more, exhausted_same, unmade_same, unmade_first}
+use Rattle.planner.proofs.Searched.{ended_exhausted, full_by, written_by, written_ok, exhausted_more, exhausted_same, unmade_same}
 use Rattle.planner.proofs.widths.try_widths.Goals as goal
-
-pub loop-width-init : goal.loop-width-init
-loop-width-init g c = (refl, λ k lt. absurd (omega arith), λ k _. unmade_first k, refl)
-
--- the search by this width was refused
-pub returns-in_err-reply : goal.returns-in_err-reply
-returns-in_err-reply g c =
-    let p = err_from_is_err_and c.from_residual.result c.from_residual.ensures.1 in
-    let P = g.D.StateModel.meaning c.args.model.now in
-    let inv = c.loop-width.invariant in
-    let n : length c.args.nodes.now ≡ length c.loop-width.nodes = omega arith in
-    let m : length c.args.marks.now ≡ length c.loop-width.marks = omega arith in
-    let fault = refused_by _ _ c.in_err-reply.field-0.0 (sym c.width_search.ensures.value ∙ c.in_err-reply.was) in
-    rw (p.1, p.2) (
-      inv.3,
-      (
-        c.loop-width.width,
-        c.loop-width-test.true,
-        inl (fault_by_length P c.loop-width.width c.args.nodes.now c.loop-width.nodes c.args.marks.now c.loop-width.marks n m ∙ fault),
-      ),
-    )
 
 -- the way was refused: it holds, so the list is too short
 pub returns-in_err-steps : goal.returns-in_err-steps
