@@ -26,11 +26,17 @@ pub const ROWS: usize = 1_539;
 // Places for actions.
 const ACTIONS: usize = 64;
 
-// A row for a search that is not made yet.
-pub fn blank_row() -> Row
+// A row for a search that is not made yet. A const fn, as `Default::default` is none.
+pub const fn blank_row() -> Row
     ensures { result ≡ unmade_row }
 {
-    Row::default()
+    Row {
+        number: 0,
+        width: 0,
+        expanded: 0,
+        kept: 0,
+        length: None,
+    }
 }
 
 // Solves a problem whose actions stand at the beginning of the table; the steps and the rows go into the lent lists.
