@@ -22,7 +22,7 @@ use Rattle.runs.specs.declared.claim.Progressed.{Progressed}
 use Rattle.runs.specs.declared.claim.Refused.{Refused}
 use Rattle.runs.specs.declared.claim.Work.{Work}
 use Rattle.runs.proofs.Replies.{passed}
-use Rattle.solver.specs.Attempt.{steps_of, settle_fault, settled_length, settled_run, settled_plan, outcome_at, way_at, width_task, opening_fault, ended, way_refused, closing_fault, SearchedOut, run_after, plan_written, nodes_after, attempt_fault, plan_after, row_of}
+use Rattle.solver.specs.Attempt.{steps_of, settle_fault, settled_length, settled_run, settled_plan, outcome_at, way_at, width_task, opening_fault, ended, way_refused, closing_fault, SearchedOut, run_after, plan_written, nodes_after, attempt_fault, plan_after, row, row_of}
 use Rattle.solver.specs.declared.report.Row.{Row}
 
 -- Where a refusal's claim is spent, by a step that keeps the refusal, what was handed is told.
@@ -284,8 +284,8 @@ module _ {S M : Type 0} (N k : ℕ) (v : View S M) (nodes : List (Node S)) (mark
 
 pub attempt_row : {S : Type 0} (g : Snapshot S) (number k : ℕ) (n : Option ℕ) (expanded kept : ℕ) → expanded ≡ g.expanded → kept ≡ g.kept
     → n ≡ steps_of (way_at g)
-    → ◌≡◌ {A = Row} (record { number = number; width = k; expanded = expanded; kept = kept; length = n }) (row_of number k g)
-attempt_row g number k n expanded kept e q l = cong4 (λ a b c d. record { number = d; width = k; expanded = a; kept = b; length = c }) e q l refl
+    → row number k expanded kept n ≡ row_of number k g
+attempt_row g number k n expanded kept e q l = cong4 (λ a b c d. row d k a b c) e q l refl
 
 -- its row tells of a length where it found a way
 pub row_found : {S : Type 0} (g : Snapshot S) (number k : ℕ) (row : Row) → row ≡ row_of number k g → is_some row.length ≡ is_some (way_at g)

@@ -53,15 +53,12 @@ outcome_at g = outcome_of g.nodes g.met g.expanded g.kept
 abbrev pub way_at : {S : Type 0} → Snapshot S → Option Way
 way_at g = way_in (outcome_at g)
 
+abbrev pub row : ℕ → ℕ → ℕ → ℕ → Option ℕ → Row
+row number width expanded kept length = record { number = number; width = width; expanded = expanded; kept = kept; length = length }
+
 -- the row of a search that ended so
 abbrev pub row_of : {S : Type 0} → ℕ → ℕ → Snapshot S → Row
-row_of n k g = record {
-  number = n;
-  width = k;
-  expanded = g.expanded;
-  kept = g.kept;
-  length = steps_of (way_at g);
-}
+row_of n k g = row n k g.expanded g.kept (steps_of (way_at g))
 
 -- N is the number of atoms, k the width
 module _ {S M : Type 0} (N : ℕ) (k : ℕ) (v : View S M) where

@@ -2,7 +2,7 @@
 // end of its claim.
 // The run and the lent lists are passed one by one: of a struct that holds several `&mut` each clause would say again that
 // each stays the same reference.
-ghost use Rattle.std.specs.Prelude.{◌≡◌, ◌+◌, length, None, Ok};
+ghost use Rattle.std.specs.Prelude.{◌≡◌, ◌+◌, ◌<◌, ◌^◌, length, None, Ok};
 ghost use Rattle.runs.specs.Run.{view};
 ghost use Rattle.runs.specs.Calls.{unless, told, worked_reply, abandon_fault, closed_run};
 ghost use Rattle.solver.specs.Attempt.{settle_fault, settled_length, settled_run, settled_plan, opening_fault, ended, SearchedOut, attempt_fault, nodes_after, marks_after, plan_after, run_after, row_of};
@@ -74,17 +74,18 @@ fn search_here<D: StateModel>(
     run.work(ticket, budget, nodes, marks).map_err(spent)
 }
 
-// One search of this width and number, and what comes of it.
+// One search of this width, after `before` others, and what comes of it.
 pub(crate) fn attempt<D: StateModel>(
     run: &mut Run<D, Tuples>,
     atoms: usize,
-    number: usize,
+    before: usize,
     width: usize,
     nodes: &mut [Node<D::State>],
     marks: &mut [u8],
     plan: &mut [usize],
 ) -> Result<Row, Refusal>
-    ensures reply { result ≡ told (attempt_fault atoms width (view run.old) nodes.old marks.old plan.old) (row_of number width (ended atoms width (view run.old) nodes.old marks.old)) }
+    requires { before + 1 < 2 ^ 64 }
+    ensures reply { result ≡ told (attempt_fault atoms width (view run.old) nodes.old marks.old plan.old) (row_of (before + 1) width (ended atoms width (view run.old) nodes.old marks.old)) }
     ensures run { (row : Row) → result ≡ Ok row → view run.new ≡ run_after atoms width (view run.old) (ended atoms width (view run.old) nodes.old marks.old) }
     ensures nodes { nodes.new ≡ nodes_after atoms width (view run.old) nodes.old marks.old }
     ensures marks { marks.new ≡ marks_after atoms width (view run.old) nodes.old marks.old }
@@ -96,11 +97,5 @@ pub(crate) fn attempt<D: StateModel>(
         kept,
     } = search_here(run, atoms, width, nodes, marks)?;
     let length = settle(run, claim, nodes, plan)?;
-    Ok(Row {
-        number,
-        width,
-        expanded,
-        kept,
-        length,
-    })
+    Ok(Row::after(before, width, expanded, kept, length))
 }

@@ -1,4 +1,7 @@
 // What the solver tells.
+ghost use Rattle.std.specs.Prelude.{◌≡◌, ◌+◌, ◌<◌, ◌^◌};
+ghost use Rattle.solver.specs.Attempt.{row};
+
 use std::fmt;
 
 // One search: its number from 1 on, its width, the expanded and kept states, and the length of the way, if it found one.
@@ -11,6 +14,28 @@ pub struct Row {
     pub length: Option<usize>,
 }
 
+impl Row {
+    // The row of the search that comes after `before` others.
+    pub(crate) fn after(
+        before: usize,
+        width: usize,
+        expanded: usize,
+        kept: usize,
+        length: Option<usize>,
+    ) -> Row
+        requires { before + 1 < 2 ^ 64 }
+        ensures { result ≡ row (before + 1) width expanded kept length }
+    {
+        Row {
+            number: before + 1,
+            width,
+            expanded,
+            kept,
+            length,
+        }
+    }
+}
+
 // The number, the width, 1 for a way and else 0, the expanded and kept states, and the way's length, 0 without one.
 impl fmt::Display for Row {
     fn fmt<W: fmt::Write>(&self, f: &mut fmt::Formatter<W>) -> fmt::Result {
@@ -19,10 +44,10 @@ impl fmt::Display for Row {
             width,
             expanded,
             kept,
-            length,
+            ..
         } = *self;
-        let found = u8::from(length.is_some());
-        let length = length.unwrap_or(0);
+        let found = u8::from(self.length.is_some());
+        let length = self.length.unwrap_or(0);
         write!(f, "{number} {width} {found} {expanded} {kept} {length}")
     }
 }

@@ -1,5 +1,6 @@
 // A plan by searches of the widths 0, 1 and 2 in turn, subproblem after subproblem.
-ghost use Rattle.std.specs.Prelude.{◌≡◌, Ok};
+ghost use Rattle.std.specs.Prelude.{◌≡◌, not, Ok};
+ghost use Rattle.runs.specs.Run.{view};
 ghost use Rattle.solver.specs.Reported.{Reported};
 ghost use Rattle.solver.specs.Solve.{memory, next_width, solved};
 
@@ -29,6 +30,13 @@ fn width_after(found: bool, width: usize) -> Option<usize>
     }
 }
 
+// Whether a target is still to be reached.
+fn short_of_target<D: StateModel>(run: &Run<D, Tuples>) -> bool
+    ensures { result ≡ not ((view run.now).problem.target (view run.now).current) }
+{
+    !run.at_target()
+}
+
 // Solves a model along a sketch: at each state reached it searches the subproblem there by width 0, 1 and 2 in turn, adopts
 // the first way found, and goes on from its end. It stops at a target of the model or at a third stub. Each search has a
 // row; where no row is free it refuses.
@@ -52,11 +60,11 @@ pub fn solve<D: StateModel + Drop>(
     let mut made = 0;
     let mut width = 0;
     // A `for` over the rows would ask for the target twice, since the last row may be followed by one.
-    while !run.at_target() {
+    while short_of_target(&run) {
         if made >= rows.len() {
             return Err(Refusal::Limit { place: made });
         }
-        let row = attempt(&mut run, atoms, made + 1, width, nodes, marks, plan)?;
+        let row = attempt(&mut run, atoms, made, width, nodes, marks, plan)?;
         rows[made] = row;
         made += 1;
         let Some(next) = width_after(row.length.is_some(), width) else {

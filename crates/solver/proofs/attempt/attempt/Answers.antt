@@ -1,4 +1,4 @@
-use Rattle.std.proofs.Common.{◌≡◌, length, Some, Ok, Err, sym, ap, ◌∙◌}
+use Rattle.std.proofs.Common.{◌≡◌, ◌+◌, length, Some, Ok, Err, sym, ap, ◌∙◌}
 use Rattle.std.proofs.lemmas.Result.{err_from_is_err_and}
 use Rattle.planner.specs.Widths.{first_fault}
 use Rattle.runs.specs.Run.{view}
@@ -23,7 +23,7 @@ returns-in_err-claim g c =
     let fault : attempt_fault N k v nodes marks plan ≡ Some e = ap (λ f. first_fault f (closing_fault N k v end (length plan))) refused in
     let is : c.from_residual.result ≡ Err e = cc in
     record {
-      reply = is ∙ sym (ap (λ f. told f (row_of c.args.number k end)) fault);
+      reply = is ∙ sym (ap (λ f. told f (row_of (c.args.before + 1) k end)) fault);
       run = λ row ok. absurd (not_both _ e row is ok);
       nodes = c.search_here.ensures.nodes;
       marks = c.search_here.ensures.marks;
@@ -51,7 +51,7 @@ returns-in_err-length g c =
     c.settle.ensures.reply c.in_err-length.was in
     let is : c.from_residual-in_err-length.result ≡ Err e = cc in
     record {
-      reply = is ∙ sym (ap (λ f. told f (row_of c.args.number k end)) fault);
+      reply = is ∙ sym (ap (λ f. told f (row_of (c.args.before + 1) k end)) fault);
       run = λ row ok. absurd (not_both _ e row is ok);
       nodes = c.search_here.ensures.nodes;
       marks = c.search_here.ensures.marks;
@@ -77,8 +77,8 @@ returns g c =
     c.search_here.ensures.nodes _ n c.settle.ensures.reply c.in_ok-length.was in
     record {
       reply =
-          ap Ok (attempt_row end c.args.number k n work.expanded work.kept (ap (λ x. x.expanded) done.1) (ap (λ x. x.kept) done.1) given.1)
-          ∙ sym (ap (λ f. told f (row_of c.args.number k end)) given.0);
+          ap Ok (c.after.ensures ∙ attempt_row end (c.args.before + 1) k n work.expanded work.kept (ap (λ x. x.expanded) done.1) (ap (λ x. x.kept) done.1) given.1)
+          ∙ sym (ap (λ f. told f (row_of (c.args.before + 1) k end)) given.0);
       run = λ _ _.
           settle_run N k v nodes marks plan done.0 w X work.claim (ap (λ x. x.claim) done.1) c.search_here.new.nodes
           c.search_here.ensures.nodes _ c.settle.ensures.run given.0;

@@ -1,4 +1,5 @@
 use Rattle.std.proofs.Common.{◌≡◌, suc, ◌+◌, ◌-◌, ◌≤◌, true, false, length, set, Some, None, Ok, Err, sym, refl, ap, ◌∙◌, ap₂, arith, length-set}
+use Rattle.std.proofs.lemmas.Bool.{not-true, not-false}
 use Rattle.std.proofs.lemmas.Result.{err_from_is_err_and}
 use Rattle.domain.specs.declared.refusal.Refusal.TheVariants.{Limit}
 use Rattle.runs.specs.Run.{view}
@@ -18,7 +19,7 @@ returns-then-made-rows g c =
     let before = memory c.args.nodes.now c.args.marks.now c.args.plan.now c.args.rows.now in
     let mem = memory l.nodes l.marks l.plan l.rows in
     let start = ap₂ (λ a w. solve_from a (length c.args.rows.now) 0 w before) (sym c.atoms-atoms.ensures) (sym c.new-run.ensures.value) in
-    let off : v.problem.target v.current ≡ false = sym c.loop-run-test.ensures in
+    let off : v.problem.target v.current ≡ false = not-true _ (sym c.loop-run-test.ensures) in
     let none : length l.rows - l.made ≡ 0 = omega arith in
     let done : solved P c.args.sketch before ≡ answer (Err (Limit v.searches)) mem =
     start ∙ l.invariant.0 ∙ ap (λ n. solve_from c.atoms-atoms.result n l.width v mem) none ∙ ends_without_row c.atoms-atoms.result l.width v mem off in
@@ -41,7 +42,7 @@ returns-in_err-row g c =
     let v = view l.run in
     let before = memory c.args.nodes.now c.args.marks.now c.args.plan.now c.args.rows.now in
     let mem = memory l.nodes l.marks l.plan l.rows in
-    let off : v.problem.target v.current ≡ false = sym c.loop-run-test.ensures in
+    let off : v.problem.target v.current ≡ false = not-true _ (sym c.loop-run-test.ensures) in
     let free : length l.rows - l.made ≡ suc (length l.rows - (l.made + 1)) = omega arith in
     let start = ap₂ (λ a w. solve_from a (length c.args.rows.now) 0 w before) (sym c.atoms-atoms.ensures) (sym c.new-run.ensures.value) in
     let e = c.in_err-row.field-0.0 in
@@ -67,7 +68,7 @@ returns-in_default g c =
     let v = view l.run in
     let before = memory c.args.nodes.now c.args.marks.now c.args.plan.now c.args.rows.now in
     let mem = memory l.nodes l.marks l.plan l.rows in
-    let off : v.problem.target v.current ≡ false = sym c.loop-run-test.ensures in
+    let off : v.problem.target v.current ≡ false = not-true _ (sym c.loop-run-test.ensures) in
     let free : length l.rows - l.made ≡ suc (length l.rows - (l.made + 1)) = omega arith in
     let start = ap₂ (λ a w. solve_from a (length c.args.rows.now) 0 w before) (sym c.atoms-atoms.ensures) (sym c.new-run.ensures.value) in
     let row = c.in_ok-row.row in
@@ -95,7 +96,7 @@ loop-run-preserved g c =
     let v = view l.run in
     let before = memory c.args.nodes.now c.args.marks.now c.args.plan.now c.args.rows.now in
     let mem = memory l.nodes l.marks l.plan l.rows in
-    let off : v.problem.target v.current ≡ false = sym c.loop-run-test.ensures in
+    let off : v.problem.target v.current ≡ false = not-true _ (sym c.loop-run-test.ensures) in
     let free : length l.rows - l.made ≡ suc (length l.rows - (l.made + 1)) = omega arith in
     let row = c.in_ok-row.row in
     let made = told_given _ _ row (sym c.attempt.ensures.reply ∙ c.in_ok-row.was) in
@@ -121,7 +122,7 @@ returns g c =
     let before = memory c.args.nodes.now c.args.marks.now c.args.plan.now c.args.rows.now in
     let mem = memory l.nodes l.marks l.plan l.rows in
     let start = ap₂ (λ a w. solve_from a (length c.args.rows.now) 0 w before) (sym c.atoms-atoms.ensures) (sym c.new-run.ensures.value) in
-    let on : v.problem.target v.current ≡ true = sym c.loop-run-test.ensures in
+    let on : v.problem.target v.current ≡ true = not-false _ (sym c.loop-run-test.ensures) in
     let done : solved P c.args.sketch before ≡ answer (Ok (report v AtTarget)) mem =
     start ∙ l.invariant.0 ∙ ends_at_target c.atoms-atoms.result l.width v mem (length l.rows - l.made) on in
     let ends = ap₂ (λ a b. Ok (record { rows = a; steps = b; ending = AtTarget })) (sym l.invariant.1) c.plan_length-2.ensures in
