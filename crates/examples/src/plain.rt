@@ -26,6 +26,7 @@ fn relax(distances: &mut Distances, ops: &[Op], state: u8, level: u16) {
 }
 
 fn expand_level(distances: &mut Distances, ops: &[Op], level: u16) {
+    // A chain with `filter` would hold the distances that the loop changes.
     for state in 0..=255u8 {
         if distances[usize::from(state)] == Some(level) {
             relax(distances, ops, state, level);
@@ -36,6 +37,7 @@ fn expand_level(distances: &mut Distances, ops: &[Op], level: u16) {
 fn distances_from(ops: &[Op], start: u8) -> Distances {
     let mut distances = [None; 256];
     distances[usize::from(start)] = Some(0);
+    // The levels are no places of a list: each is told to the next step, in order.
     for level in 0..256u16 {
         expand_level(&mut distances, ops, level);
     }

@@ -12,10 +12,8 @@ use std::test::Fail;
 // The set of the atoms whose bits are set.
 fn set_of(bits: u8) -> AtomSet {
     let mut set = AtomSet::default();
-    for atom in 0..8u8 {
-        if (bits >> atom) & 1 == 1 {
-            set.insert(atom);
-        }
+    for atom in (0..8u8).filter(|atom| (bits >> *atom) & 1 == 1) {
+        set.insert(atom);
     }
     set
 }
@@ -29,11 +27,7 @@ fn action_of(op: Op) -> Action {
 }
 
 fn unused() -> Node<AtomSet> {
-    Node {
-        state: AtomSet::default(),
-        parent: 0,
-        action: 0,
-    }
+    Node::unlinked(AtomSet::default())
 }
 
 // A whole search of eight atoms by the sets of at most `width` of them.
@@ -57,11 +51,11 @@ fn length_of(reply: &Reply) -> Option<usize> {
 // Action i needs and deletes atom i and adds the next; the atoms of the chain are an admissible set at width 1.
 fn chain() -> [Op; 8] {
     let mut ops = [Op::default(); 8];
-    for i in 0..7 {
-        ops[i] = Op {
-            needs: 1 << i,
-            adds: 2 << i,
-            deletes: 1 << i,
+    for (op, bit) in ops.iter_mut().zip([1, 2, 4, 8, 16, 32, 64]) {
+        *op = Op {
+            needs: bit,
+            adds: bit << 1,
+            deletes: bit,
         };
     }
     ops
@@ -81,12 +75,8 @@ fn chains_are_found_at_their_shortest(rt: HostRuntime) -> Result<(), Fail> {
 // Three switches, and a lamp that needs the first two.
 fn switches() -> [Op; 8] {
     let mut ops = [Op::default(); 8];
-    for i in 0..3 {
-        ops[i] = Op {
-            needs: 0,
-            adds: 1 << i,
-            deletes: 0,
-        };
+    for (op, bit) in ops.iter_mut().zip([1, 2, 4]) {
+        op.adds = bit;
     }
     ops[3] = Op {
         needs: 3,
