@@ -33,6 +33,7 @@ fn print_case(rt: &HostRuntime, case: &Case) -> anyhow::Result<()> {
     Ok(())
 }
 
+// The corpus is read here and not in `cases`, since no call of a library allocates; what is left to share is the `for`.
 fn main(rt: HostRuntime) -> anyhow::Result<()> {
     let mut corpus = Vec::new(rt.alloc());
     rt.stdin().read_to_end(&mut corpus)?;
