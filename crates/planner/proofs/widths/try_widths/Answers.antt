@@ -1,8 +1,7 @@
-use Rattle.std.proofs.Common.{◌≡◌, Some, None, ◌<◌, ◌++◌, length, drop, sym, refl, ap, ◌∙◌, subst, inl, inr, arith, length-set}
+use Rattle.std.proofs.Common.{Some, None, ◌<◌, ◌++◌, length, drop, sym, ap, ◌∙◌, subst, inr, arith, length-set}
 use Rattle.std.proofs.lemmas.List.{get_or-set_same}
 use Rattle.std.proofs.lemmas.Result.{err_from_is_err_and}
 use Rattle.planner.specs.Way.{actions_of, written_list}
-use Rattle.planner.specs.Widths.{ExhaustedBelow}
 use Rattle.planner.proofs.Searched.{ended_exhausted, full_by, written_by, written_ok, exhausted_more, exhausted_same, unmade_same}
 use Rattle.planner.proofs.widths.try_widths.Goals as goal
 
@@ -72,10 +71,3 @@ loop-width-preserved g c =
       unmade_same P k replies reply inv.2,
       inv.3,
     )
-
-pub returns : goal.returns
-returns g c =
-    let P = g.D.StateModel.meaning c.args.model.now in
-    let inv = c.loop-width.invariant in
-    let all : c.loop-width.width ≡ 3 = omega arith in
-    inl (refl, subst (λ k. ExhaustedBelow P k c.loop-width.place-items) all inv.1, inv.3)
