@@ -3,7 +3,6 @@
 #![tactic(auto)]
 
 ghost use Rattle.std.specs.Prelude.{◌≡◌, ◌≤◌, length, take};
-ghost use Rattle.std.specs.Iterator.{IsFinite};
 ghost use Rattle.problem.specs.Problem.{held, limited_problem};
 ghost use Rattle.report.specs.Answered.{lists, SolvesParsed, Answers};
 ghost use Rattle.solver.specs.Reported.{unmade_row};
@@ -74,7 +73,7 @@ pub fn print_result(
 ) -> io::Result<()> {
     match res {
         Ok(report) => {
-            print_searches(rt, rows.iter().take(report.rows).copied())?;
+            print_searches(rt, rows, report.rows)?;
             print_plan(rt, plan, report.steps)
         }
         Err(refusal) => print_refusal(rt, refusal),
@@ -89,13 +88,15 @@ pub fn print_refusal(rt: &HostRuntime, refusal: &Refusal) -> io::Result<()> {
     println!(rt; "{number} {place}")
 }
 
-// One line a search.
-pub fn print_searches<I: Iterator<Item = Row>>(rt: &HostRuntime, rows: I) -> io::Result<()>
-    requires can { I.can_next rows }
-    requires ends { IsFinite (I.remaining rows) }
-{
-    println!(rt; "search k found expanded kept length")?;
-    for row in rows {
+// What stands above the lines of the searches.
+pub fn print_heading(rt: &HostRuntime) -> io::Result<()> {
+    println!(rt; "search k found expanded kept length")
+}
+
+// One line a search, of those at the beginning of the list.
+fn print_searches(rt: &HostRuntime, rows: &[Row], count: usize) -> io::Result<()> {
+    print_heading(rt)?;
+    for row in rows.iter().take(count) {
         println!(rt; "{row}")?;
     }
     Ok(())

@@ -8,7 +8,7 @@ use domain::refusal::Refusal;
 use domain::strips::Strips;
 use planner::node::{Node, Outcome, Reply};
 use planner::widths::{Attempts, try_widths};
-use report::{PLACES, print_plan, print_refusal, print_searches};
+use report::{PLACES, print_heading, print_plan, print_refusal};
 use solver::report::Row;
 use std::io;
 
@@ -36,12 +36,21 @@ fn row(width: usize, reply: &Reply) -> Row {
     }
 }
 
+// One line a search that was made.
+fn print_searches(rt: &HostRuntime, attempts: &Attempts) -> io::Result<()> {
+    print_heading(rt)?;
+    for (width, reply) in attempts.replies.iter().flatten().enumerate() {
+        let row = row(width, reply);
+        println!(rt; "{row}")?;
+    }
+    Ok(())
+}
+
 fn main(rt: HostRuntime) -> io::Result<()> {
     let mut plan = [0; PLACES];
     match solve(&mut plan) {
         Ok(attempts) => {
-            let replies = attempts.replies.iter().flatten().enumerate();
-            print_searches(&rt, replies.map(|(width, reply)| row(width, reply)))?;
+            print_searches(&rt, &attempts)?;
             print_plan(&rt, &plan, attempts.steps.unwrap_or(0))
         }
         Err(refusal) => print_refusal(&rt, &refusal),
