@@ -37,6 +37,13 @@ impl<'a> Sieve<'a> {
         }
     }
 
+    // Of each rule whether it is left, and nothing past the rules.
+    fn flags(&self) -> &[bool]
+        ensures { result.now ≡ left_in self.now }
+    {
+        &self.left[..self.rules.len()]
+    }
+
     // Whether the entry of the feature passes the test in some rule that is left.
     fn some_left<F: Fn(Entry) -> bool>(&self, feature: usize, test: F) -> bool
         requires inside { feature < 8 }
@@ -45,19 +52,23 @@ impl<'a> Sieve<'a> {
     {
         self.rules
             .iter()
-            .zip(&self.left)
+            .zip(self.flags())
             .any(|(rule, left)| *left && test(rule.entries[feature]))
     }
 
-    // Whether the feature justifies that the rule is struck.
+    // Whether the feature justifies that the rule is struck. The other rules are looked at only where the entry surely moves
+    // the feature, and for what moves it back.
     fn is_justified(&self, rule: &Rule, feature: usize) -> bool
         requires { feature < length self.now.features.now }
         ensures { result ≡ justified_in self.now rule.now feature }
     {
         let kind = self.features[feature].kind;
-        let raised = self.some_left(feature, |entry| entry.may_raise(kind));
-        let lowered = self.some_left(feature, |entry| entry.may_lower(kind));
-        rule.entries[feature].moves_one_way(kind, raised, lowered)
+        let entry = rule.entries[feature];
+        let raised = entry.surely_lowers(kind)
+            && self.some_left(feature, |other| other.may_raise(kind));
+        let lowered = entry.surely_raises(kind)
+            && self.some_left(feature, |other| other.may_lower(kind));
+        entry.moves_one_way(kind, raised, lowered)
     }
 
     // Whether some feature justifies that the rule is struck.
@@ -73,7 +84,7 @@ impl<'a> Sieve<'a> {
     {
         self.rules
             .iter()
-            .zip(&self.left)
+            .zip(self.flags())
             .position(|(rule, left)| *left && self.is_strikable(rule))
     }
 
@@ -91,10 +102,7 @@ impl<'a> Sieve<'a> {
     fn count_left(&self) -> usize
         ensures { result ≡ flagged (left_in self.now) }
     {
-        self.left[..self.rules.len()]
-            .iter()
-            .filter(|left| **left)
-            .count()
+        self.flags().iter().filter(|left| **left).count()
     }
 }
 
