@@ -1,5 +1,6 @@
 pub mod Asked
 pub mod Bounded
+pub mod Copied
 pub mod Cycle
 pub mod Plain
 pub mod Seen

@@ -1,4 +1,5 @@
 pub mod Below
+pub mod Blanked
 pub mod Entry
 pub mod Examples
 pub mod Fault

@@ -1,7 +1,19 @@
 // A lent list held in an array of its own.
 ghost use Rattle.std.specs.Prelude.{◌≡◌, ◌≤◌, length};
+ghost use Rattle.sketch.specs.Blanked.{held};
 
 use std::alloc::AllocError;
+
+// The first N of the items, with `blank` behind them where there are fewer.
+#[tactic(auto, using(crate::proofs::Copied::copied_front))]
+pub fn hold_first<T: Copy, const N: usize>(items: &[T], blank: T) -> [T; N]
+    ensures { result ≡ held N blank items.now }
+{
+    let mut copy = [blank; N];
+    let count = items.len().min(N);
+    copy[..count].copy_from_slice(&items[..count]);
+    copy
+}
 
 // At most N items, which stand at the beginning of the array.
 #[derive(Debug)]
@@ -29,10 +41,10 @@ impl<T: Copy, const N: usize> Held<T, N> {
     pub fn first(items: &[T], blank: T) -> Held<T, N>
         ensures { list_of result ≡ take N items.now }
     {
-        let mut copy = [blank; N];
-        let count = items.len().min(N);
-        copy[..count].copy_from_slice(&items[..count]);
-        Held { items: copy, count }
+        Held {
+            items: hold_first(items, blank),
+            count: items.len().min(N),
+        }
     }
 
     pub fn as_slice(&self) -> &[T]
