@@ -1,5 +1,5 @@
 // A lent list held in an array of its own.
-ghost use Rattle.std.specs.Prelude.{◌≡◌, ◌≤◌, length};
+ghost use Rattle.std.specs.Prelude.{◌≡◌, ◌≤◌, ⊤, length};
 ghost use Rattle.sketch.specs.Blanked.{held};
 
 use std::alloc::AllocError;
@@ -24,8 +24,12 @@ pub struct Held<T, const N: usize> {
     ghost full: { length items ≡ N },
 }
 
-// By hand: a derive of `Clone` is refused on a generic struct with a ghost field.
+// By hand: a derive of `Clone` is refused on a generic struct with a ghost field. It copies.
 impl<T: Copy, const N: usize> Clone for Held<T, N> {
+    ghost is_clone = { λ x y. y ≡ x };
+
+    ghost is_infallible = { λ _. ⊤ };
+
     fn clone(&self) -> Result<Held<T, N>, AllocError> {
         Ok(*self)
     }
