@@ -1,10 +1,10 @@
 -- The tables with what was not named, and one above the highest number that was. Assumes nothing.
-use Rattle.std.proofs.Common.{◌≡◌, ℕ, zero, suc, ◌+◌, ◌<◌, ◌≤◌, max, Bool, true, false, cond, ltb, List, [], ◌∷◌, length, set, map, Some, None, Option, MatchOption, is_some, slice_index_or, sym, refl, ap, ◌∙◌, ⊎_elim, arith}
+use Rattle.std.proofs.Common.{◌≡◌, ◌≢◌, ℕ, zero, suc, ◌+◌, ◌<◌, ◌≤◌, max, Bool, true, false, cond, ltb, List, [], ◌∷◌, length, set, map, take, ◌++◌, Some, None, Option, MatchOption, is_some, slice_index_or, sym, refl, ap, ◌∙◌, ⊎_elim, arith, length-take}
 use Rattle.std.specs.Array.{IsMapOf}
 use Rattle.std.specs.Fn.{Called}
 use Rattle.std.specs.List.{list_any}
 use Rattle.std.proofs.lemmas.Bool.{cases_lt, lt-ltb, le-ltb}
-use Rattle.std.proofs.lemmas.List.{same_lists, length-map, get_or-map}
+use Rattle.std.proofs.lemmas.List.{same_lists, length-map, get_or-map, get_or-take, take_at, get_or-set_same, get_or-set_other}
 use denote.Param.Members.{Mut}
 use Rattle.problem.specs.Tables.{one_past, feature_count, rule_count, feature_added, rule_added}
 use Rattle.problem.specs.declared.tables.FeatureRow.{FeatureRow}
@@ -19,34 +19,51 @@ mapped v none xs ys n e h calls =
     same_lists ys (map v xs) (h.long ∙ e ∙ sym (length-map xs v))
     (λ k d l. let call = h.at k none d (omega (arith, h.long)) in calls call.0 _ _ call.1 call.2 ∙ sym (get_or-map v xs k none d (omega (arith, h.long))))
 
--- one above the last that is true, as the code finds it
-none_true : (bs : List Bool) → ((k : ℕ) → k < length bs → slice_index_or bs k true ≡ false) → one_past (λ b. b) bs ≡ 0
-none_true [] h = refl
-none_true (b ∷ bs) h =
-    let first : b ≡ false = h 0 (omega arith) in
-    let rest = none_true bs (λ k l. h (suc k) (omega arith)) in
-    simp (first, rest) refl
+-- the first places, as a loop writes them: what v makes of the first items of a list
+module _ {A B : Type 0} (v : A → B) (none : A) (xs : List A) where
+  abbrev pub Written : List B → ℕ → Type 0
+  Written ys i = (k : ℕ) (e : B) → k < i → slice_index_or ys k e ≡ v (slice_index_or xs k none)
 
-last_true : (bs : List Bool) (i : ℕ) → i < length bs → slice_index_or bs i false ≡ true → ((k : ℕ) → i < k → k < length bs → slice_index_or bs k true ≡ false) → one_past (λ b. b) bs ≡ i + 1
-last_true [] i l e h = absurd (omega arith)
-last_true (b ∷ bs) zero l e h =
-    let first : b ≡ true = e in
-    let rest = none_true bs (λ k l. h (suc k) (omega arith) (omega arith)) in
-    simp (first, rest) refl
-last_true (b ∷ bs) (suc i) l e h =
-    let rest = last_true bs i (omega arith) e (λ k m l. h (suc k) (omega arith) (omega arith)) in
-    let some = lt-ltb 0 (one_past (λ b. b) bs) (omega (arith, rest)) in
-    simp some (omega (arith, rest))
+  pub written_more : (ys : List B) (i : ℕ) (y : B) → i < length ys → Written ys i → y ≡ v (slice_index_or xs i none) → Written (set ys i y) (i + 1)
+  written_more ys i y inside h same k e l =
+      ⊎_elim (λ less. let other : k ≢ i = omega arith in get_or-set_other ys i k y e other ∙ h k e less)
+      (λ more. let here : k ≡ i = omega arith in ap (λ j. slice_index_or (set ys i y) j e) here ∙ get_or-set_same ys i y e inside ∙ same
+      ∙ sym (ap (λ j. v (slice_index_or xs j none)) here))
+      (cases_lt k i)
 
-pub found_past : (bs : List Bool) (r : Option ℕ) (m : ℕ)
-    → MatchOption r ((k : ℕ) → k < length bs → slice_index_or bs k true ≡ false) (λ i. (i < length bs) × (slice_index_or bs i false ≡ true) × ((k : ℕ) → i < k → k < length bs → slice_index_or bs k true ≡ false))
-    → MatchOption r (m ≡ 0) (λ i. m ≡ i + 1) → m ≡ one_past (λ b. b) bs
-found_past bs None m h e = e ∙ sym (none_true bs h)
-found_past bs (Some i) m h e = e ∙ sym (last_true bs i h.0 h.1 h.2)
+  pub written_all : (ys rest : List B) (i n : ℕ) → length ys ≡ n → n ≤ i → n ≤ length xs → Written ys i → take n (ys ++ rest) ≡ take n (map v xs)
+  written_all ys rest i n long past inside h =
+      let size = length-take n (map v xs) in
+      let whole : length (map v xs) ≡ length xs = length-map xs v in
+      take_at ys rest n long
+      ∙ same_lists ys (take n (map v xs)) (omega (arith, long, size, whole))
+      (λ k d l. h k d (omega (arith, long)) ∙ sym (get_or-take n (map v xs) k d (omega (arith, long)) ∙ get_or-map v xs k none d (omega (arith, long))))
 
-pub one_past_map : {X : Type 0} (p : X → Bool) (xs : List X) → one_past (λ b. b) (map p xs) ≡ one_past p xs
-one_past_map p [] = refl
-one_past_map p (x ∷ xs) = ap (λ (n : ℕ). cond (ltb 0 n) (1 + n) (cond (p x) 1 0)) (one_past_map p xs)
+-- one above the last that passes, as the code finds it
+module _ {X : Type 0} (p : X → Bool) (none : X) where
+  none_passes : (xs : List X) → ((k : ℕ) → k < length xs → p (slice_index_or xs k none) ≡ false) → one_past p xs ≡ 0
+  none_passes [] h = refl
+  none_passes (x ∷ xs) h =
+      let first : p x ≡ false = h 0 (omega arith) in
+      let rest = none_passes xs (λ k l. h (suc k) (omega arith)) in
+      simp (first, rest) refl
+
+  last_passes : (xs : List X) (i : ℕ) → i < length xs → p (slice_index_or xs i none) ≡ true → ((k : ℕ) → i < k → k < length xs → p (slice_index_or xs k none) ≡ false) → one_past p xs ≡ i + 1
+  last_passes [] i l e h = absurd (omega arith)
+  last_passes (x ∷ xs) zero l e h =
+      let first : p x ≡ true = e in
+      let rest = none_passes xs (λ k l. h (suc k) (omega arith) (omega arith)) in
+      simp (first, rest) refl
+  last_passes (x ∷ xs) (suc i) l e h =
+      let rest = last_passes xs i (omega arith) e (λ k m l. h (suc k) (omega arith) (omega arith)) in
+      let some = lt-ltb 0 (one_past p xs) (omega (arith, rest)) in
+      simp some (omega (arith, rest))
+
+  pub found_past : (xs : List X) (r : Option ℕ) (m : ℕ)
+      → MatchOption r ((k : ℕ) → k < length xs → p (slice_index_or xs k none) ≡ false) (λ i. (i < length xs) × (p (slice_index_or xs i none) ≡ true) × ((k : ℕ) → i < k → k < length xs → p (slice_index_or xs k none) ≡ false))
+      → MatchOption r (m ≡ 0) (λ i. m ≡ i + 1) → m ≡ one_past p xs
+  found_past xs None m h e = e ∙ sym (none_passes xs h)
+  found_past xs (Some i) m h e = e ∙ sym (last_passes xs i h.0 h.1 h.2)
 
 -- what one item changes
 at_most : (b : Bool) (k : ℕ) → cond (ltb 0 k) (1 + k) (cond b 1 0) ≤ 1 + k

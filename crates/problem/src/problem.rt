@@ -10,10 +10,13 @@ ghost use Rattle.problem.specs.declared.reader.Reader.{Reader};
 use crate::fault::{LineFault, ProblemFault};
 use crate::reader::Reader;
 use crate::reading::read_lines;
+use crate::tables::{MAX_FEATURES, MAX_RULES};
 use domain::atoms::AtomSet;
 use domain::model::MAX_ACTIONS;
 use domain::refusal::Refusal;
 use domain::strips::Action;
+use sketch::feature::Feature;
+use sketch::rule::Rule;
 use sketch::sketch::Sketch;
 
 // The longest text that a program should take.
@@ -39,11 +42,11 @@ impl Reader {
         ensures faults { MatchResult result (λ _. sketch_fault (features_read self.now) (rules_read self.now) ≡ None) (λ e. sketch_fault (features_read self.now) (rules_read self.now) ≡ Some e) }
         ensures given { IfOk result (λ s. (features_of s ≡ features_read self.now) × (rules_of s ≡ rules_read self.now)) }
     {
-        let features = self.features.all();
-        let rules = self.rules.all();
+        let mut features = [Feature::blank(); MAX_FEATURES];
+        let mut rules = [Rule::blank(); MAX_RULES];
         Sketch::new(
-            &features[..self.features.count()],
-            &rules[..self.rules.count()],
+            self.features.list(&mut features),
+            self.rules.list(&mut rules),
         )
     }
 }

@@ -1,5 +1,5 @@
 // The tables of a text as they are filled, and what one line adds to each.
-ghost use Rattle.std.specs.Prelude.{◌≡◌, ◌<◌, ◌≤◌, length, is_some};
+ghost use Rattle.std.specs.Prelude.{◌≡◌, ◌<◌, ◌≤◌, take, is_some};
 ghost use Rattle.std.specs.List.{list_any};
 ghost use Rattle.problem.specs.Tables.{no_atoms, no_features, no_rules, one_past, feature_count, rule_count, rule_of, features_with_blanks, rules_with_blanks, atom_added, action_added, feature_added, rule_added, other_kind, both_named, with_role};
 
@@ -114,17 +114,6 @@ impl ActionRow {
     }
 }
 
-// One above the last that is true, or 0 where none is.
-fn one_past(named: &[bool]) -> usize
-    ensures value { result ≡ one_past (λ b. b) named.now }
-    ensures below { result ≤ length named.now }
-{
-    named
-        .iter()
-        .rposition(|named| *named)
-        .map_or(0, |last| last + 1)
-}
-
 impl FeatureTable {
     pub(crate) fn new() -> FeatureTable
         ensures { result ≡ no_features }
@@ -139,15 +128,21 @@ impl FeatureTable {
         ensures value { result ≡ feature_count self.now }
         ensures below { result ≤ 8 }
     {
-        one_past(&self.features.map(|feature| feature.is_some()))
+        self.features
+            .iter()
+            .rposition(|feature| feature.is_some())
+            .map_or(0, |last| last + 1)
     }
 
-    // All features: those that were not named are blank.
-    pub(crate) fn all(&self) -> [Feature; MAX_FEATURES]
-        ensures { result ≡ features_with_blanks self.now }
+    // The features up to the highest that was named, at the first of the places: those that were not named are blank.
+    pub(crate) fn list<'a>(&self, places: &'a mut [Feature; MAX_FEATURES]) -> &'a [Feature]
+        ensures { result.now ≡ take (feature_count self.now) (features_with_blanks self.now) }
     {
-        self.features
-            .map(|feature| feature.unwrap_or(Feature::blank()))
+        let count = self.count();
+        for (number, place) in places[..count].iter_mut().enumerate() {
+            *place = self.features[number].unwrap_or(Feature::blank());
+        }
+        &places[..count]
     }
 
     // Whether the feature was named under another kind.
@@ -171,8 +166,8 @@ impl FeatureTable {
 }
 
 // Whether a rule was named, by what was said of each feature.
-fn is_named(entries: [Option<Entry>; MAX_FEATURES]) -> bool
-    ensures { result ≡ list_any is_some entries }
+fn is_named(entries: &[Option<Entry>; MAX_FEATURES]) -> bool
+    ensures { result ≡ list_any is_some entries.now }
 {
     entries.iter().any(|entry| entry.is_some())
 }
@@ -205,14 +200,21 @@ impl RuleTable {
         ensures value { result ≡ rule_count self.now }
         ensures below { result ≤ 16 }
     {
-        one_past(&self.entries.map(is_named))
+        self.entries
+            .iter()
+            .rposition(is_named)
+            .map_or(0, |last| last + 1)
     }
 
-    // All rules: those that were not named say nothing.
-    pub(crate) fn all(&self) -> [Rule; MAX_RULES]
-        ensures { result ≡ rules_with_blanks self.now }
+    // The rules up to the highest that was named, at the first of the places: those that were not named say nothing.
+    pub(crate) fn list<'a>(&self, places: &'a mut [Rule; MAX_RULES]) -> &'a [Rule]
+        ensures { result.now ≡ take (rule_count self.now) (rules_with_blanks self.now) }
     {
-        self.entries.map(rule_of)
+        let count = self.count();
+        for (number, place) in places[..count].iter_mut().enumerate() {
+            *place = rule_of(self.entries[number]);
+        }
+        &places[..count]
     }
 
     // Whether the rule and the feature were named together.
