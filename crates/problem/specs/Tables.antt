@@ -41,9 +41,12 @@ feature_count t = one_past is_some t.features
 abbrev pub rule_count : RuleTable → ℕ
 rule_count t = one_past (list_any is_some) t.entries
 
--- a feature that may have been named, and the rule of entries that may have been
+-- a feature that may have been named, the feature of a number, and the rule of entries that may have been named
 abbrev pub feature_of : Option Feature → Feature
 feature_of f = unwrap_or f blank_feature
+
+abbrev pub feature_at : List (Option Feature) → ℕ → Feature
+feature_at fs f = feature_of (slice_index_or fs f None)
 
 abbrev pub rule_of : List (Option Entry) → Rule
 rule_of es = record { entries = map (λ e. unwrap_or e blank) es }
@@ -91,7 +94,7 @@ action_added acts row = slice_set acts row.action (with_role (action_at acts row
 abbrev pub feature_added : FeatureTable → FeatureRow → FeatureTable
 feature_added t row = record {
   features = set t.features row.feature
-      (Some (record { kind = row.kind; atoms = with_atom (feature_of (slice_index_or t.features row.feature None)).atoms row.atom }));
+      (Some (record { kind = row.kind; atoms = with_atom (feature_at t.features row.feature).atoms row.atom }));
 }
 
 -- a rule says something of a feature
