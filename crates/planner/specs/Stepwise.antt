@@ -1,12 +1,12 @@
 -- A search under way, that is begun once and advanced step by step: what each call replies and leaves. Assumes nothing.
-use Rattle.std.specs.Prelude.{◌≡◌, ℕ, ◌≤◌, Bool, true, cond, ◌||◌, List, None, Ok, Err, Option, Result, nat_lt}
+use Rattle.std.specs.Prelude.{◌≡◌, ℕ, ◌<◌, ◌≤◌, Bool, true, cond, ◌||◌, List, None, Ok, Err, Option, Result, nat_lt}
 use Rattle.domain.specs.Model.{Meaning}
 use Rattle.domain.specs.declared.refusal.Refusal.{Refusal}
 use Rattle.domain.specs.declared.refusal.Refusal.TheVariants.{FewPlaces}
 use Rattle.planner.specs.declared.node.Link.{Link}
 use Rattle.planner.specs.declared.node.Node.{Node}
 use Rattle.planner.specs.declared.node.Outcome.{Outcome}
-use Rattle.planner.specs.declared.node.Outcome.TheVariants.{Open}
+use Rattle.planner.specs.declared.node.Outcome.TheVariants.{Found, Exhausted, Open}
 use Rattle.planner.specs.declared.node.Progress.{Progress}
 use Rattle.planner.specs.declared.node.Reply.{Reply}
 use Rattle.planner.specs.Search.{Snapshot, task, advanced}
@@ -34,6 +34,22 @@ pub record Bounds (n : ℕ) (p : Progress) : Type 0 where
   pub kept : p.kept ≤ n
   pub expanded : p.expanded ≤ n
   pub within : linked n p.met ≡ true
+
+-- the same of where a search stands, which every call tells
+abbrev pub InBounds : {M : Type 0} → UnderWay M → Type 0
+InBounds u = Bounds u.count (record { expanded = u.expanded; kept = u.kept; met = u.met })
+
+-- the last state on a way that was found is among the first n
+abbrev pub WayWithin : ℕ → Outcome → Type 0
+WayWithin n (Found w) = w.parent < n
+WayWithin n Exhausted = Unit {0}
+WayWithin n Open = Unit {0}
+
+-- what holds of a reply of every search by n keys
+pub record ReplyBounds (n : ℕ) (r : Reply) : Type 0 where
+  pub kept : r.kept ≤ n
+  pub expanded : r.expanded ≤ n
+  pub way : WayWithin n r.outcome
 
 -- a search by the measure m of n keys that has kept its start, which waits
 abbrev pub started : {M : Type 0} → M → ℕ → UnderWay M

@@ -1,8 +1,8 @@
 // How a search under way is begun and advanced, and what it tells of itself.
-ghost use Rattle.std.specs.Prelude.{◌≡◌, ◌≤◌, not, length, is_ok, if◌then◌else◌, Ok, Err};
+ghost use Rattle.std.specs.Prelude.{◌≡◌, ◌≤◌, not, length, is_ok, IfOk, if◌then◌else◌, Ok, Err};
 ghost use Rattle.domain.specs.declared.refusal.Refusal.TheVariants.{FewPlaces};
 ghost use Rattle.planner.specs.Search.{task, begun};
-ghost use Rattle.planner.specs.Stepwise.{started, lacks, worked_on, moved_on, advance_reply};
+ghost use Rattle.planner.specs.Stepwise.{started, lacks, worked_on, moved_on, advance_reply, InBounds, ReplyBounds};
 
 use crate::node::{Node, Outcome, Reply};
 use crate::stepwise::Search;
@@ -22,6 +22,7 @@ impl<M: Measure + Drop> Search<M> {
         marks: &mut [u8],
     ) -> Result<Search<M>, Refusal>
         ensures reply { elim result [ Ok s ↦ s ≡ started measure (M.total measure) | Err e ↦ e ≡ FewPlaces ] }
+        ensures bounds { IfOk result (λ s. InBounds s) }
         ensures refused { is_ok result ≡ not (lacks (M.total measure) (length nodes.old) (length marks.old)) }
         ensures nodes { nodes.new ≡ (if lacks (M.total measure) (length nodes.old) (length marks.old) then nodes.old else (begun (task (D.meaning model.now) (M.keys measure) (M.total measure)) nodes.old marks.old).nodes) }
         ensures marks { marks.new ≡ (if lacks (M.total measure) (length nodes.old) (length marks.old) then marks.old else (begun (task (D.meaning model.now) (M.keys measure) (M.total measure)) nodes.old marks.old).marks) }
@@ -48,6 +49,9 @@ impl<M: Measure + Drop> Search<M> {
         budget: usize,
     ) -> Result<Reply, Refusal>
         ensures reply { result ≡ advance_reply (worked_on (D.meaning model.now) M.keys budget self.old nodes.old marks.old) (lacks self.old.count (length nodes.old) (length marks.old)) }
+        ensures told { IfOk result (λ r. ReplyBounds self.new.count r) }
+        ensures held { InBounds self.old }
+        ensures bounds { InBounds self.new }
         ensures search { self.new ≡ (if lacks self.old.count (length nodes.old) (length marks.old) then self.old else moved_on self.old (worked_on (D.meaning model.now) M.keys budget self.old nodes.old marks.old)) }
         ensures nodes { nodes.new ≡ (if lacks self.old.count (length nodes.old) (length marks.old) then nodes.old else (worked_on (D.meaning model.now) M.keys budget self.old nodes.old marks.old).nodes) }
         ensures marks { marks.new ≡ (if lacks self.old.count (length nodes.old) (length marks.old) then marks.old else (worked_on (D.meaning model.now) M.keys budget self.old nodes.old marks.old).marks) }
@@ -66,7 +70,8 @@ impl<M: Measure + Drop> Search<M> {
 
     // What the last advance replied; open before the first.
     pub fn outcome(&self) -> Outcome
-        ensures { result ≡ self.now.outcome }
+        ensures value { result ≡ self.now.outcome }
+        ensures bounds { InBounds self.now }
     {
         self.outcome
     }
@@ -75,13 +80,17 @@ impl<M: Measure + Drop> Search<M> {
     pub fn expanded(&self) -> usize
         ensures value { result ≡ self.now.expanded }
         ensures small { result ≤ 65536 }
+        ensures within { result ≤ self.now.count }
+        ensures bounds { InBounds self.now }
     {
         self.progress.expanded
     }
 
     // How many keys the measure has.
     pub fn count(&self) -> usize
-        ensures { result ≡ self.now.count }
+        ensures value { result ≡ self.now.count }
+        ensures few { result ≤ 65536 }
+        ensures bounds { InBounds self.now }
     {
         self.count
     }

@@ -1,7 +1,7 @@
 use Rattle.std.proofs.Common.{◌≤◌, ltb, length, arith}
 use Rattle.std.proofs.lemmas.Bool.{or_parts, ltb-false}
 use Rattle.planner.specs.Search.{task}
-use Rattle.planner.proofs.Bounds.{bounds_after, within_from}
+use Rattle.planner.proofs.Bounds.{bounds_after, reply_bounds, within_from}
 use Rattle.planner.proofs.stepwise.Search.advance.Goals as goal
 
 pub reply-told-requires : goal.reply-told-requires
@@ -15,6 +15,19 @@ reply-told-requires g c =
 
 pub invariant_of-self : goal.invariant_of-self
 invariant_of-self g c =
+    let s = c.self.inside in
+    let Q = task (g.D.StateModel.meaning c.args.model.now) (g.M.Measure.keys s.measure) s.count in
+    bounds_after Q _ _ _ _ _ s.progress _ c.self.invariant c.advance.ensures
+
+pub returns-clause-told : goal.returns-clause-told
+returns-clause-told g c =
+    let s = c.self.inside in
+    let Q = task (g.D.StateModel.meaning c.args.model.now) (g.M.Measure.keys s.measure) s.count in
+    let after = bounds_after Q _ _ _ _ _ s.progress _ c.self.invariant c.advance.ensures in
+    reply_bounds s.count c.advance.new.nodes c.advance.new.progress _ after c.reply-told.ensures
+
+pub returns-clause-bounds : goal.returns-clause-bounds
+returns-clause-bounds g c =
     let s = c.self.inside in
     let Q = task (g.D.StateModel.meaning c.args.model.now) (g.M.Measure.keys s.measure) s.count in
     bounds_after Q _ _ _ _ _ s.progress _ c.self.invariant c.advance.ensures
