@@ -29,6 +29,10 @@ KeyForValues fs =
     (s t : List ℕ) → (value_key fs s ≡ value_key fs t → values_of fs s ≡ values_of fs t)
     × (values_of fs s ≡ values_of fs t → value_key fs s ≡ value_key fs t)
 
+-- a number of keys, unless there are more than a measure may have
+abbrev pub bounded_count : ℕ → Option ℕ
+bounded_count n = cond (nat_lt 65536 n) None (Some n)
+
 -- why there is no measure by these features; None where there is one
 abbrev pub values_fault : List Feature → Option Refusal
 values_fault fs =
