@@ -1,9 +1,10 @@
-// The cases of a stored corpus: for each a line `case NAME LENGTH`, then exactly LENGTH bytes of text, then a newline.
+// The cases of a stored corpus: for each a line `case NAME LENGTH`, then exactly LENGTH bytes of text, then a newline, which is
+// skipped unread.
 #![tactic(auto)]
 
-ghost use Rattle.std.specs.Prelude.{◌≡◌, ◌<◌, length, IfSome, MatchOption, Contains};
-ghost use Rattle.std.specs.Str.Parse.{IsNumeral, digits_value};
-ghost use Rattle.cases.specs.Case.{IsCut, IsCase};
+ghost use Rattle.std.specs.Prelude.{◌≡◌, ◌<◌, ◌≤◌, ◌+◌, ◌^◌, length, take, drop, IfSome, MatchOption, Contains};
+ghost use Rattle.std.specs.Str.Parse.{AllDigits, digits_value};
+ghost use Rattle.cases.specs.Case.{IsCut, IsCase, NoCase};
 
 use thiserror::Error;
 
@@ -28,26 +29,38 @@ fn cut(bytes: &[u8], at: u8) -> Option<(&[u8], &[u8])>
     Some((&bytes[..place], &bytes[place + 1..]))
 }
 
-// The number that digits alone write; `parse` takes a plus before them too.
+// The number that digits alone write, 0 where there is none; `parse` refuses an empty text, and takes a plus before digits.
 fn number(digits: &[u8]) -> Option<usize>
-    ensures { IfSome result (λ n. IsNumeral 10 digits.now × (n ≡ digits_value 10 digits.now)) }
+    ensures { MatchOption result (¬ (AllDigits 10 digits.now × (digits_value 10 digits.now < 2 ^ 64))) (λ n. AllDigits 10 digits.now × (n ≡ digits_value 10 digits.now)) }
 {
+    if digits.is_empty() {
+        return Some(0);
+    }
     if digits.first() == Some(&b'+') {
         return None;
     }
     std::str::from_utf8(digits).ok()?.parse().ok()
 }
 
-// The first case of some bytes; what is behind it is shorter.
+// So many bytes, and what stands behind the byte after them, whatever that is.
+fn text_and_rest(bytes: &[u8], size: usize) -> Option<(&[u8], &[u8])>
+    ensures { MatchOption result (length bytes.now ≤ size) (λ parts. (size < length bytes.now) × (parts.0.now ≡ take size bytes.now) × (parts.1.now ≡ drop (size + 1) bytes.now)) }
+{
+    if size >= bytes.len() {
+        return None;
+    }
+    Some((&bytes[..size], &bytes[size + 1..]))
+}
+
+// The first case of some bytes, if one begins them; what is behind it is shorter.
 pub fn next_case(input: &[u8]) -> Option<Case<'_>>
-    ensures case { IfSome result (λ c. IsCase input.now c.name.now c.text.now c.rest.now) }
+    ensures case { MatchOption result (NoCase input.now) (λ c. IsCase input.now c.name.now c.text.now c.rest.now) }
     ensures shorter { IfSome result (λ c. length c.rest.now < length input.now) }
 {
     let (line, after) = cut(input, b'\n')?;
     let words = line.strip_prefix(b"case ")?;
     let (name, digits) = cut(words, b' ')?;
-    let (text, behind) = after.split_at_checked(number(digits)?)?;
-    let rest = behind.strip_prefix(b"\n")?;
+    let (text, rest) = text_and_rest(after, number(digits)?)?;
     Some(Case { name, text, rest })
 }
 
