@@ -4,9 +4,9 @@ use mathlib.Core.Path.{fun_ext}
 use Rattle.std.specs.List.{ContainsAt as Has, AllByRecursion}
 use Rattle.std.proofs.ByRecursion.{all-has, kept_by_passes, has_append_left, has_push, all_has_itself, All-weaker, Decides-by_and}
 use Rattle.std.proofs.lemmas.List.{append-nil}
-use Rattle.std.proofs.lemmas.Bool.{cases_eq, eq-eqb, ne_eqb, ltb-true, lt-ltb, cond-true, cond-false, and_parts, and_right}
-use Rattle.std.proofs.lemmas.Bool.Decides.{Decides-like}
-use Rattle.domain.specs.Atoms.{has, upto, members, limited, every, within, NoneFrom, FirstFrom}
+use Rattle.std.proofs.lemmas.Bool.{cases_lt, cases_eq, both_ways, eq-eqb, ne_eqb, ltb-true, lt-ltb, le-ltb, cond-true, cond-false, and_parts, and_left, and_right}
+use Rattle.std.proofs.lemmas.Bool.Decides.{Decides-like, nat_tests}
+use Rattle.domain.specs.Atoms.{has, upto, members, members_from, limited, every, within, NoneFrom, FirstFrom}
 use Rattle.domain.specs.Listed.{kept_upto_suc}
 pub use Rattle.domain.specs.Listed.{members_rising, limited_below}
 use Rattle.domain.specs.Operators.{fits}
@@ -84,6 +84,40 @@ members_first s t a first same =
 pub no_members : (s : AtomSet) → NoneFrom s 0 → members s ≡ []
 unfolding members
 no_members s none = kept_up_to (has s) 0 256 (omega arith) (λ b l _. none b l)
+
+-- none is below 0
+pub members_from_0 : (s : AtomSet) → members_from s 0 ≡ members s
+unfolding members members_from
+members_from_0 s = ap (λ (p : ℕ → Bool). filter p (upto 256)) (fun_ext (λ a. and_yes (has s a) (not (ltb a 0)) (ap not (le-ltb a 0 (omega arith)))))
+
+-- the lowest member at or past `from` comes first, and then those past it
+pub members_from_first : (s : AtomSet) (from a : ℕ) → FirstFrom s from a → members_from s from ≡ a ∷ members_from s (a + 1)
+unfolding members_from
+members_from_first s from a first =
+    first_kept (λ b. has s b && not (ltb b from)) (λ b. has s b && not (ltb b (a + 1))) a
+    (and_yes (has s a) (not (ltb a from)) (ap not (le-ltb a from first.0)) ∙ first.1)
+    (λ b l. before b l)
+    (λ b. same (has s b) b (first.2 b))
+    256 (has_below s a first.1)
+  where
+    before : (b : ℕ) → b < a → (has s b && not (ltb b from)) ≡ false
+    before b l =
+        ⊎_elim (λ h. and_right (has s b) (not (ltb b from)) (ap not (lt-ltb b from h)))
+        (λ h. and_left (has s b) (not (ltb b from)) (first.2 b h l)) (cases_lt b from)
+
+    tests : (b : ℕ) → from ≤ a → (from ≤ b → b < a → ⊥) → not (ltb b (a + 1)) ≡ (not (ltb b from) && not (eqb b a))
+    tests b h none = grind (arith, nat_tests)
+
+    same : (x : Bool) (b : ℕ) → (from ≤ b → b < a → x ≡ false) → (x && not (ltb b (a + 1))) ≡ ((x && not (ltb b from)) && not (eqb b a))
+    same true b none = tests b first.0 (λ h l. both_ways true (none h l) refl)
+    same false b none = refl
+
+pub no_members_from : (s : AtomSet) (from : ℕ) → NoneFrom s from → members_from s from ≡ []
+unfolding members_from
+no_members_from s from none =
+    kept_up_to (λ b. has s b && not (ltb b from)) 0 256 (omega arith)
+    (λ b _ _. ⊎_elim (λ h. and_right (has s b) (not (ltb b from)) (ap not (lt-ltb b from h)))
+    (λ h. and_left (has s b) (not (ltb b from)) (none b h)) (cases_lt b from))
 
 kept_twice : {X : Type 0} (p q : X → Bool) (xs : List X) → filter (λ x. p x && q x) xs ≡ filter q (filter p xs)
 kept_twice p q [] = refl

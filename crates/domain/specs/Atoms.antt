@@ -1,5 +1,5 @@
 -- Sets of atoms 0 to 255, and what the operations on them mean. Assumes nothing.
-use Rattle.std.specs.Prelude.{◌≡◌, ℕ, zero, suc, ◌/◌, ◌%◌, ◌^◌, ◌<◌, ◌≤◌, Bool, true, false, ◌&&◌, List, [], ◌∷◌, ◌++◌, filter, bit_and, bit_or, nat_lt, slice_index, slice_set}
+use Rattle.std.specs.Prelude.{◌≡◌, ℕ, zero, suc, ◌/◌, ◌%◌, ◌^◌, ◌<◌, ◌≤◌, Bool, true, false, not, ◌&&◌, List, [], ◌∷◌, ◌++◌, filter, bit_and, bit_or, nat_lt, slice_index, slice_set}
 use Rattle.domain.specs.Words.{bit, zipped, lacking, lowest}
 use Rattle.domain.specs.declared.atoms.AtomSet.{AtomSet}
 
@@ -19,6 +19,10 @@ upto (suc n) = upto n ++ (n ∷ [])
 -- the members of s, strictly rising
 unfoldable pub members : AtomSet → List ℕ
 members s = filter (has s) (upto 256)
+
+-- the members of s at or past `from`, strictly rising
+unfoldable pub members_from : AtomSet → ℕ → List ℕ
+members_from s from = filter (λ a. has s a && not (nat_lt a from)) (upto 256)
 
 -- every element of a list passes a test
 abbrev pub every : {X : Type 0} → (X → Bool) → List X → Bool

@@ -1,5 +1,5 @@
 -- Rows of four words of 64 bits, and what the operations on them give. Assumes nothing.
-use Rattle.std.specs.Prelude.{ℕ, ◌+◌, ◌-◌, ◌/◌, ◌%◌, ◌^◌, ◌<◌, Bool, List, [], ◌∷◌, ◌==◌, bit_and, count_ones, slice_index}
+use Rattle.std.specs.Prelude.{◌≡◌, ℕ, ◌+◌, ◌-◌, ◌/◌, ◌%◌, ◌^◌, ◌<◌, ◌≤◌, Bool, List, [], ◌∷◌, ◌==◌, bit_and, count_ones, slice_index}
 
 -- bit i of a word
 abbrev pub bit : ℕ → ℕ → Bool
@@ -28,3 +28,11 @@ lowest n a = slice_index a 0 % 2 ^ n ∷ slice_index a 1 % 2 ^ (n - 64) ∷ slic
 -- how many bits are set
 abbrev pub total : List ℕ → ℕ
 total a = count_ones (slice_index a 0) + count_ones (slice_index a 1) + count_ones (slice_index a 2) + count_ones (slice_index a 3)
+
+-- no word from `start` on has a set bit
+abbrev pub BlankFrom : List ℕ → ℕ → Type 0
+BlankFrom a start = (k : ℕ) → start ≤ k → k < 4 → slice_index a k ≡ 0
+
+-- i is the first word from `start` on with a set bit
+abbrev pub FirstSet : List ℕ → ℕ → ℕ → Type 0
+FirstSet a start i = (start ≤ i) × (i < 4) × (0 < slice_index a i) × ((k : ℕ) → start ≤ k → k < i → slice_index a k ≡ 0)

@@ -1,8 +1,8 @@
 // A set of atoms 0 to 255, in four words of 64 bits: atom a is bit a % 64 of word a / 64.
 // Above this file nobody sees a word, only membership (`has`) and the rising list of members.
-ghost use Rattle.std.specs.Prelude.{◌≡◌, ℕ, ◌≤◌, true, false, not, ◌&&◌, ◌||◌, ◌++◌, length, drop, Decides, MatchOption, ◌==◌, nat_lt};
+ghost use Rattle.std.specs.Prelude.{◌≡◌, ℕ, ◌*◌, ◌≤◌, true, false, not, ◌&&◌, ◌||◌, ◌++◌, length, drop, Decides, MatchOption, ◌==◌, nat_lt};
 ghost use Rattle.std.specs.Iterator.{YieldsFirst, item_count};
-ghost use Rattle.domain.specs.Atoms.{has, members, none, with_atom, without_atom, unite, without, common, limited, within, NoneFrom, FirstFrom};
+ghost use Rattle.domain.specs.Atoms.{has, members, members_from, none, with_atom, without_atom, unite, without, common, limited, within, NoneFrom, FirstFrom};
 ghost use Rattle.domain.specs.Model.{Rising, among};
 
 use crate::words;
@@ -108,7 +108,7 @@ impl AtomSet {
     pub fn is_empty(&self) -> bool
         ensures { Decides result ((a : ℕ) → has self.now a ≡ false) }
     {
-        self.first().is_none()
+        self.first(0).is_none()
     }
 
     pub fn is_subset(&self, other: &AtomSet) -> bool
@@ -126,26 +126,31 @@ impl AtomSet {
         words::count(&self.words)
     }
 
-    // The lowest member.
-    fn first(&self) -> Option<u8>
-        ensures { MatchOption result (NoneFrom self.now 0) (FirstFrom self.now 0) }
+    // The lowest member in the words from `start` on.
+    fn first(&self, start: usize) -> Option<u8>
+        ensures { MatchOption result (NoneFrom self.now (64 * start)) (FirstFrom self.now (64 * start)) }
     {
-        let place = words::first_set(&self.words)?;
+        let place = words::first_set(&self.words, start)?;
         Some((64 * place) as u8 + self.words[place].trailing_zeros() as u8)
     }
 
-    // The lowest member at or past `from`.
+    // The lowest member at or past `from`: in what is left of the word of `from`, or in a later word.
     pub fn next_from(&self, from: usize) -> Option<u8>
         ensures { MatchOption result (NoneFrom self.now from) (FirstFrom self.now from) }
     {
-        self.difference(&self.below(from)).first()
+        let rest = *self.words.get(from / 64)? >> (from % 64);
+        if rest == 0 {
+            return self.first(from / 64 + 1);
+        }
+        Some(from as u8 + rest.trailing_zeros() as u8)
     }
 
     // The members, rising.
-    fn iter(&self) -> Members
-        ensures { result.rest ≡ self.now }
+    fn iter(&self) -> Members<'_>
+        ensures set { result.set.now ≡ self.now }
+        ensures from { result.from ≡ 0 }
     {
-        Members { rest: *self }
+        Members { set: self, from: 0 }
     }
 
     // Writes the members, rising, from the list's beginning, and tells how many they are.
@@ -164,22 +169,23 @@ impl AtomSet {
     }
 }
 
-// The members of a set that are still to come, from the lowest up.
+// The members of a set at or past `from`, from the lowest up.
 #[derive(Clone, Copy)]
-struct Members {
-    rest: AtomSet,
+struct Members<'a> {
+    set: &'a AtomSet,
+    from: usize,
 }
 
-impl Iterator for Members {
+impl<'a> Iterator for Members<'a> {
     type Item = u8;
 
-    ghost next_gives = { YieldsFirst (λ s. members s.rest) };
+    ghost next_gives = { YieldsFirst (λ s. members_from s.set.now s.from) };
 
-    ghost remaining = { item_count (λ s. members s.rest) };
+    ghost remaining = { item_count (λ s. members_from s.set.now s.from) };
 
     fn next(&mut self) -> Option<u8> {
-        let atom = self.rest.first()?;
-        self.rest.remove(atom);
+        let atom = self.set.next_from(self.from)?;
+        self.from = usize::from(atom) + 1;
         Some(atom)
     }
 }

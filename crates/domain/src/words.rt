@@ -1,6 +1,6 @@
 // Four words of 64 bits as one row of 256: bit a is bit a % 64 of word a / 64.
-ghost use Rattle.std.specs.Prelude.{◌≡◌, ℕ, ◌/◌, ◌%◌, ◌^◌, ◌<◌, ◌≤◌, ◌==◌, not, length, IfSome, position, slice_index, slice_set};
-ghost use Rattle.domain.specs.Words.{Short, bit, lowest, total};
+ghost use Rattle.std.specs.Prelude.{◌≡◌, ℕ, ◌/◌, ◌%◌, ◌^◌, ◌<◌, ◌≤◌, length, MatchOption, slice_index, slice_set};
+ghost use Rattle.domain.specs.Words.{Short, bit, lowest, total, BlankFrom, FirstSet};
 
 use std::array;
 
@@ -47,12 +47,11 @@ pub fn is_set(row: &[u64; 4], at: u8) -> bool
     (row[at as usize / 64] >> (at % 64)) % 2 == 1
 }
 
-// The first word with a set bit.
-pub fn first_set(row: &[u64; 4]) -> Option<usize>
-    ensures value { result ≡ position (λ w. not (w == 0)) row.now }
-    ensures inside { IfSome result (λ i. i < 4) }
+// The first word with a set bit, from the word `start` on.
+pub fn first_set(row: &[u64; 4], start: usize) -> Option<usize>
+    ensures { MatchOption result (BlankFrom row.now start) (FirstSet row.now start) }
 {
-    row.iter().position(|word| *word != 0)
+    (start..4).find(|i| row[*i] != 0)
 }
 
 // How many bits are set.
