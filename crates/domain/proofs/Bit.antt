@@ -87,3 +87,16 @@ bit_pow (suc j) zero = ap (λ (x : ℕ). eqb x 1) (let e : 2 ^ suc j / 1 % 2 ≡
 bit_pow (suc j) (suc i) =
     sym (bit_half (2 ^ suc j) i) ∙ ap (λ (x : ℕ). bit x i) (let e : 2 ^ suc j / 2 ≡ 2 ^ j = omega (arith, pow-suc 2 j) in e)
     ∙ bit_pow j i ∙ sym (eqb-suc-suc i j)
+
+-- two words of k bits are equal where their bits are
+pub same_bits : (k w v : ℕ) → w < 2 ^ k → v < 2 ^ k → ((i : ℕ) → i < k → bit w i ≡ bit v i) → w ≡ v
+same_bits zero w v h l e = omega arith
+same_bits (suc k) w v h l e =
+    let high : w / 2 ≡ v / 2 =
+    same_bits k (w / 2) (v / 2) (omega (arith, pow-suc 2 k)) (omega (arith, pow-suc 2 k))
+    (λ i m. bit_half w i ∙ e (suc i) (omega arith) ∙ sym (bit_half v i)) in
+    let low : w / 1 % 2 ≡ v / 1 % 2 = same_digit (w / 1 % 2) (v / 1 % 2) (omega arith) (omega arith) (e 0 (omega arith)) in
+    omega arith
+  where
+    same_digit : (x y : ℕ) → x < 2 → y < 2 → eqb x 1 ≡ eqb y 1 → x ≡ y
+    same_digit x y h l e = grind (arith, nat_tests)

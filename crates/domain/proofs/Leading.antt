@@ -50,6 +50,13 @@ getD_upto (suc n) k h =
     ⊎_elim (λ e. get_or_push (upto n) n 0 k (length_upto n ∙ sym e) ∙ sym e)
     (λ e. get_or_append_left (upto n) (n ∷ []) 0 k (omega (arith, length_upto n)) ∙ getD_upto n k (omega arith)) (cases_eq k n)
 
+-- the same over the numbers below n
+pub leading_upto : (p : ℕ → Bool) (n m : ℕ) → m ≤ n → ((k : ℕ) → k < m → p k ≡ true) → (m < n → p m ≡ false) → m ≡ prefix_len p (upto n)
+leading_upto p n m h before here =
+    let long = length_upto n in
+    leading_is p (upto n) m 0 (omega arith) (λ k l. ap p (getD_upto n k (omega arith)) ∙ before k l)
+    (λ l. ap p (getD_upto n m (omega arith)) ∙ here (omega arith))
+
 pub upto_passes : (p : ℕ → Bool) (n k : ℕ) → k < n → n ≤ prefix_len p (upto n) → p k ≡ true
 upto_passes p n k h all = ap p (sym (getD_upto n k h)) ∙ leading_passes p (upto n) k 0 (omega arith)
 

@@ -10,6 +10,7 @@ pub mod Members
 pub mod Next
 pub mod Sets
 pub mod Standing
+pub mod Table
 pub mod Tally
 pub mod Trailing
 pub mod Undone

@@ -1,5 +1,5 @@
 -- The list of members against membership. Assumes nothing.
-use Rattle.std.proofs.Common.{◌≡◌, ℕ, zero, suc, ◌+◌, ◌-◌, ◌<◌, ◌≤◌, Bool, true, false, cond, not, ◌&&◌, eqb, ltb, List, [], ◌∷◌, ◌++◌, Decides, filter, sym, refl, ap, ◌∙◌, subst, ap₂, ⊎_elim, add-zero, add-suc, arith}
+use Rattle.std.proofs.Common.{◌≡◌, ℕ, zero, suc, ◌+◌, ◌-◌, ◌<◌, ◌≤◌, Bool, true, false, cond, not, ◌&&◌, eqb, ltb, List, [], ◌∷◌, ◌++◌, Decides, filter, sym, refl, ap, ◌∙◌, subst, ap₂, ⊎_elim, add-zero, add-suc, add-one, arith}
 use mathlib.Core.Path.{fun_ext}
 use Rattle.std.specs.List.{ContainsAt as Has, AllByRecursion}
 use Rattle.std.proofs.ByRecursion.{all-has, kept_by_passes, has_append_left, has_push, all_has_itself, All-weaker, Decides-by_and}
@@ -47,6 +47,17 @@ pub kept_up_to : (p : ℕ → Bool) (m n : ℕ) → m ≤ n → ((b : ℕ) → m
 kept_up_to p m n h none =
     let e : n ≡ m + (n - m) = omega arith in
     ap (λ (k : ℕ). filter p (upto k)) e ∙ kept_none p m (n - m) (λ b l k. none b l (omega arith))
+
+-- the members below m and the lowest at or past m are the members up to that one
+pub kept_to_first : (s : AtomSet) (m a : ℕ) → FirstFrom s m a → filter (has s) (upto (a + 1)) ≡ filter (has s) (upto m) ++ a ∷ []
+kept_to_first s m a first =
+    ap (λ (k : ℕ). filter (has s) (upto k)) (add-one a) ∙ kept_upto_suc (has s) a
+    ∙ ap₂ ◌++◌ (kept_up_to (has s) m a first.0 first.2) (cond-true (has s a) (a ∷ []) [] first.1)
+
+-- where no member is at or past m, the members are those below m
+pub members_up_to : (s : AtomSet) (m : ℕ) → m ≤ 256 → NoneFrom s m → members s ≡ filter (has s) (upto m)
+unfolding members
+members_up_to s m h none = kept_up_to (has s) m 256 h (λ b l _. none b l)
 
 -- the lowest number that passes comes first, and then those that pass besides
 first_kept : (p q : ℕ → Bool) (a : ℕ) → p a ≡ true → ((b : ℕ) → b < a → p b ≡ false) → ((b : ℕ) → q b ≡ (p b && not (eqb b a))) → (n : ℕ) → a < n
@@ -152,3 +163,11 @@ decides_within s t = decides_members (has t) s
 pub decides_fits : (n : ℕ) (s : AtomSet) → Decides (fits n s) ((a : ℕ) → has s a ≡ true → a < n)
 decides_fits n s =
     Decides-like (fits n s) (λ f a h. ltb-true a n (f a h)) (λ f a h. lt-ltb a n (f a h)) (decides_members (λ a. ltb a n) s)
+
+-- a set of atoms below n is within the members below n just where it is within all
+pub within_limited : (n : ℕ) (s t : AtomSet) → fits n s ≡ true → within s (limited t n) ≡ within s t
+within_limited n s t e = go (members s) ((decides_every (λ a. ltb a n) (members s)).0 e)
+  where
+    go : (xs : List ℕ) → AllByRecursion (λ a. ltb a n ≡ true) xs → every (has (limited t n)) xs ≡ every (has t) xs
+    go [] h = refl
+    go (x ∷ xs) h = ap₂ ◌&&◌ (has_limited t n x ∙ and_yes (has t x) (ltb x n) h.0) (go xs h.1)

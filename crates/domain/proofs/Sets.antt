@@ -69,6 +69,11 @@ wordwise_is f s t row long each =
     ext_get_or 0 row (zipped f s.words t.words) long
     (λ i h. each i (omega arith) ∙ sym (by_words (λ k. word (wordwise f s t) k ≡ f (word s k) (word t k)) refl refl refl refl i (omega arith)))
 
+pub has_none : (a : ℕ) → has none a ≡ false
+has_none =
+    has_from_bits none (λ _. false)
+    (λ i j h _. ap (λ (w : ℕ). bit w j) (by_words (λ k. word none k ≡ 0) refl refl refl refl i h) ∙ bit_zero j) (λ _ _. refl)
+
 pub has_unite : (s t : AtomSet) (a : ℕ) → has (unite s t) a ≡ (has s a || has t a)
 has_unite s t = has_wordwise bit_or ◌||◌ refl s t (λ i j _ _. bit_of_or (word s i) (word t i) j)
 

@@ -1,15 +1,40 @@
--- A set whose words are 0 has no member, and one set within another by what the one has more. Assumes nothing.
-use Rattle.std.proofs.Common.{◌≡◌, ℕ, ◌<◌, Bool, true, false, not, ◌&&◌, Decides, sym, refl, ap, ◌∙◌}
+-- The empty set by its words, and one set within another by what the one has more. Assumes nothing.
+use Rattle.std.proofs.Common.{◌≡◌, ℕ, ◌+◌, ◌*◌, ◌<◌, Bool, true, false, not, ◌&&◌, eqb, Decides, sym, refl, ap, ◌∙◌, ap₂, arith, lit<}
+use lib.Bits.{bit_or, or_add_and, and_le_l, and_le_r}
+use Rattle.std.proofs.lemmas.Bool.{eqb-true, eq-eqb}
 use Rattle.std.proofs.lemmas.Bool.Decides.{same_from_decides, Decides-like}
 use Rattle.domain.specs.Atoms.{word, has, within}
-use Rattle.domain.specs.Words.{bit}
+use Rattle.domain.specs.Words.{bit, overlaid}
 use Rattle.domain.specs.declared.atoms.AtomSet.{AtomSet}
-use Rattle.domain.proofs.Bit.{bit_zero}
-use Rattle.domain.proofs.Sets.{has_from_bits}
+use Rattle.domain.proofs.Bit.{bit_zero, same_bits}
+use Rattle.domain.proofs.Sets.{Sized, by_words, has_from_bits, has_at}
 use Rattle.domain.proofs.Members.{decides_within}
+
+or_zero : (w v : ℕ) → bit_or w v ≡ 0 → (w ≡ 0) × (v ≡ 0)
+or_zero w v e = omega (arith, or_add_and w v, and_le_l w v, and_le_r w v)
 
 pub none_from_words : (s : AtomSet) → ((i : ℕ) → i < 4 → word s i ≡ 0) → (a : ℕ) → has s a ≡ false
 none_from_words s each = has_from_bits s (λ _. false) (λ i j h _. ap (λ (w : ℕ). bit w j) (each i h) ∙ bit_zero j) (λ _ _. refl)
+
+words_from_none : (s : AtomSet) → Sized s → ((a : ℕ) → has s a ≡ false) → (i : ℕ) → i < 4 → word s i ≡ 0
+words_from_none s fits e i h =
+    same_bits 64 (word s i) 0 (fits i h) (lit< tt) (λ j l. sym (has_at s i j h l) ∙ e (64 * i + j) ∙ sym (bit_zero j))
+
+-- the words together are 0 just where there is no member
+pub decides_empty : (s : AtomSet) → Sized s → Decides (eqb (overlaid s.words) 0) ((a : ℕ) → has s a ≡ false)
+decides_empty s fits = (to, back)
+  where
+    to : eqb (overlaid s.words) 0 ≡ true → (a : ℕ) → has s a ≡ false
+    to e =
+        let p = or_zero (bit_or (bit_or (word s 0) (word s 1)) (word s 2)) (word s 3) (eqb-true _ _ e) in
+        let q = or_zero (bit_or (word s 0) (word s 1)) (word s 2) p.0 in
+        let r = or_zero (word s 0) (word s 1) q.0 in
+        none_from_words s (by_words (λ i. word s i ≡ 0) r.0 r.1 q.1 p.1)
+
+    back : ((a : ℕ) → has s a ≡ false) → eqb (overlaid s.words) 0 ≡ true
+    back f =
+        let z = words_from_none s fits f in
+        eq-eqb _ 0 (ap₂ bit_or (ap₂ bit_or (ap₂ bit_or (z 0 (lit< tt)) (z 1 (lit< tt))) (z 2 (lit< tt))) (z 3 (lit< tt)))
 
 -- d has what s has and t has not: s is within t just where d has nothing
 pub within_from_empty : (s t d : AtomSet) (r : Bool) → ((a : ℕ) → has d a ≡ (has s a && not (has t a)))

@@ -1,5 +1,5 @@
 -- Rows of four words of 64 bits, and what the operations on them give. Assumes nothing.
-use Rattle.std.specs.Prelude.{◌≡◌, ℕ, ◌+◌, ◌-◌, ◌/◌, ◌%◌, ◌^◌, ◌<◌, ◌≤◌, Bool, List, [], ◌∷◌, ◌==◌, bit_and, count_ones, slice_index}
+use Rattle.std.specs.Prelude.{◌≡◌, ℕ, ◌+◌, ◌-◌, ◌/◌, ◌%◌, ◌^◌, ◌<◌, ◌≤◌, Bool, List, [], ◌∷◌, ◌==◌, bit_and, bit_or, count_ones, slice_index}
 
 -- bit i of a word
 abbrev pub bit : ℕ → ℕ → Bool
@@ -24,6 +24,10 @@ zipped f a b = f (slice_index a 0) (slice_index b 0) ∷ f (slice_index a 1) (sl
 -- the bits below n
 abbrev pub lowest : ℕ → List ℕ → List ℕ
 lowest n a = slice_index a 0 % 2 ^ n ∷ slice_index a 1 % 2 ^ (n - 64) ∷ slice_index a 2 % 2 ^ (n - 128) ∷ slice_index a 3 % 2 ^ (n - 192) ∷ []
+
+-- the four words laid over each other
+abbrev pub overlaid : List ℕ → ℕ
+overlaid a = bit_or (bit_or (bit_or (slice_index a 0) (slice_index a 1)) (slice_index a 2)) (slice_index a 3)
 
 -- how many bits are set
 abbrev pub total : List ℕ → ℕ
