@@ -1,6 +1,6 @@
 -- One search from its begin to the end of its claim, by what each call replies and leaves. Assumes nothing.
-use Rattle.std.proofs.Common.{◌≡◌, ℕ, ◌+◌, true, false, cond, not, ◌&&◌, eqb, ltb, List, length, is_some, Some, None, Ok, Err, Option, Result, sym, refl, ap, ◌∙◌, ap₂, add-zero, arith, subst}
-use Rattle.std.proofs.lemmas.Bool.{eq-eqb}
+use Rattle.std.proofs.Common.{◌≡◌, ℕ, ◌+◌, ◌<◌, Bool, true, false, cond, not, ◌&&◌, eqb, ltb, List, length, is_some, Some, None, Ok, Err, Option, Result, sym, refl, ap, ◌∙◌, ap₂, add-zero, arith, subst}
+use Rattle.std.proofs.lemmas.Bool.{eq-eqb, lt-ltb}
 use Rattle.std.specs.Result.{MatchResult, IsErrAnd}
 use Rattle.domain.specs.declared.refusal.Refusal.{Refusal}
 use Rattle.domain.specs.declared.refusal.Refusal.TheVariants.{AtTarget, SearchOpen, ManySearches, FewPlaces, ForeignClaim}
@@ -8,9 +8,10 @@ use Rattle.novelty.specs.Tuples.{tuple_keys, tuple_count, tuples_fault}
 use Rattle.novelty.specs.declared.tuples.Tuples.{Tuples}
 use Rattle.planner.specs.Search.{Task, Snapshot, task, begun}
 use Rattle.planner.specs.Stepwise.{UnderWay, started, moved_on, lacks}
-use Rattle.planner.specs.Way.{end_of}
-use Rattle.planner.specs.Whole.{at_end}
+use Rattle.planner.specs.Way.{way_to, end_of}
+use Rattle.planner.specs.Whole.{outcome_of, at_end}
 use Rattle.planner.specs.Widths.{first_fault}
+use Rattle.planner.specs.declared.node.Link.{Link}
 use Rattle.planner.specs.declared.node.Node.{Node}
 use Rattle.planner.specs.declared.node.Outcome.{Outcome}
 use Rattle.planner.specs.declared.node.Outcome.TheVariants.{Found, Exhausted, Open}
@@ -217,6 +218,19 @@ module _ {S M : Type 0} (N k : ℕ) (v : View S M) (u : UnderWay M) (count : u.c
   plan_by Open is plan = refl
   plan_by (Found w) is plan = ap (λ x. placed plan v.length (way_actions nodes (way_in x))) is
   plan_by Exhausted is plan = refl
+
+-- a way that was found has a step at least
+pub found_long : {S : Type 0} (nodes : List (Node S)) (met : Option Link) (expanded kept : ℕ)
+    → ltb 0 (way_length (way_in (outcome_of nodes met expanded kept))) ≡ is_some (way_in (outcome_of nodes met expanded kept))
+found_long nodes (Some l) expanded kept =
+    let links = length (way_to nodes l.parent l.parent) in
+    let some : 0 < links + 1 = omega arith in
+    lt-ltb 0 (links + 1) some
+found_long nodes None expanded kept = go (ltb expanded kept)
+  where
+    go : (b : Bool) → ltb 0 (way_length (way_in (cond b Open Exhausted))) ≡ is_some (way_in (cond b Open Exhausted))
+    go true = refl
+    go false = refl
 
 -- The search has ended as g says and stands open in w, whose claim is spent in the states that it left.
 module _ {S M : Type 0} (N k : ℕ) (v : View S M) (nodes : List (Node S)) (marks plan : List ℕ)
