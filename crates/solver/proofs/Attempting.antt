@@ -301,6 +301,10 @@ pub attempt_row : {S : Type 0} (g : Snapshot S) (number k : ℕ) (n : Option ℕ
     → row number k expanded kept n ≡ row_of number k g
 attempt_row g number k n expanded kept e q l = cong4 (λ a b c d. row d k a b c) e q l refl
 
+-- a row's number, by any equal one
+pub row_at : {S : Type 0} (g : Snapshot S) {m n k : ℕ} {row : Row} → row ≡ row_of m k g → m ≡ n → row ≡ row_of n k g
+row_at {S} g {m} {n} {k} is same = is ∙ ap (λ i. row_of i k g) same
+
 -- its row tells of a length where it found a way
 pub row_found : {S : Type 0} (g : Snapshot S) (number k : ℕ) (row : Row) → row ≡ row_of number k g → is_some row.length ≡ is_some (way_at g)
 row_found g number k row is = ap (λ r. is_some r.length) is ∙ same (way_at g)

@@ -1,9 +1,9 @@
-use Rattle.std.proofs.Common.{◌≡◌, ◌+◌, length, Some, Ok, Err, sym, ap, ◌∙◌}
+use Rattle.std.proofs.Common.{rules, ◌≡◌, ◌+◌, length, Some, Ok, Err, sym, ap, ◌∙◌}
 use Rattle.std.proofs.lemmas.Result.{err_from_is_err_and}
 use Rattle.planner.specs.Widths.{first_fault}
 use Rattle.runs.specs.Run.{view}
 use Rattle.runs.specs.Calls.{unless, told}
-use Rattle.solver.specs.Attempt.{ended, closing_fault, attempt_fault, plan_written, way_at, row_of}
+use Rattle.solver.specs.Attempt.{ended, closing_fault, attempt_fault, plan_written, way_at, row, row_of}
 use Rattle.solver.proofs.Attempting.{told_refused, told_given, not_both, settle_refused, settle_given, settle_run, settle_plan, attempt_row}
 use Rattle.solver.proofs.attempt.attempt.Goals as goal
 
@@ -75,9 +75,10 @@ returns g c =
     let n = c.in_ok-length.length in
     let given = settle_given N k v nodes marks plan done.0 w X work.claim (ap (λ x. x.claim) done.1) c.search_here.new.nodes
     c.search_here.ensures.nodes _ n c.settle.ensures.reply c.in_ok-length.was in
+    let tells : c.after.result ≡ row (c.args.before + 1) k work.expanded work.kept n = search rules in
     record {
       reply =
-          ap Ok (c.after.ensures ∙ attempt_row end (c.args.before + 1) k n work.expanded work.kept (ap (λ x. x.expanded) done.1) (ap (λ x. x.kept) done.1) given.1)
+          ap Ok (tells ∙ attempt_row end (c.args.before + 1) k n work.expanded work.kept (ap (λ x. x.expanded) done.1) (ap (λ x. x.kept) done.1) given.1)
           ∙ sym (ap (λ f. told f (row_of (c.args.before + 1) k end)) given.0);
       run = λ _ _.
           settle_run N k v nodes marks plan done.0 w X work.claim (ap (λ x. x.claim) done.1) c.search_here.new.nodes

@@ -1,11 +1,11 @@
-use Rattle.std.proofs.Common.{◌≡◌, suc, ◌+◌, ◌-◌, ◌≤◌, true, false, length, set, Some, None, Ok, Err, sym, refl, ap, ◌∙◌, ap₂, arith, length-set}
-use Rattle.std.proofs.lemmas.Bool.{not-true, not-false}
+use Rattle.std.proofs.Common.{rules, ◌≡◌, suc, ◌+◌, ◌-◌, ◌≤◌, true, false, length, set, Some, None, Ok, Err, sym, refl, ap, ◌∙◌, ap₂, arith, length-set}
 use Rattle.std.proofs.lemmas.Result.{err_from_is_err_and}
 use Rattle.domain.specs.declared.refusal.Refusal.TheVariants.{Limit}
 use Rattle.runs.specs.Run.{view}
+use Rattle.solver.specs.Attempt.{row_of}
 use Rattle.solver.specs.Solve.{memory, answer, report, next_width, at_its_end, fault_at, found_at, view_after, memory_after, solve_from, solved}
 use Rattle.solver.specs.declared.report.Ending.TheVariants.{AtTarget, ThirdStub}
-use Rattle.solver.proofs.Attempting.{told_refused, told_given, not_both, cong4, row_found}
+use Rattle.solver.proofs.Attempting.{told_refused, told_given, not_both, cong4, row_at, row_found}
 use Rattle.solver.proofs.Reporting.{said}
 use Rattle.solver.proofs.Solving.{ends_at_target, ends_without_row, ends_refused, ends_with_stub, goes_on_by, row_written, row_left}
 use Rattle.solver.proofs.solve.solve.Goals as goal
@@ -19,7 +19,7 @@ returns-then-made-rows g c =
     let before = memory c.args.nodes.now c.args.marks.now c.args.plan.now c.args.rows.now in
     let mem = memory l.nodes l.marks l.plan l.rows in
     let start = ap₂ (λ a w. solve_from a (length c.args.rows.now) 0 w before) (sym c.atoms-atoms.ensures) (sym c.new-run.ensures.value) in
-    let off : v.problem.target v.current ≡ false = not-true _ (sym c.loop-run-test.ensures) in
+    let off : v.problem.target v.current ≡ false = search rules in
     let none : length l.rows - l.made ≡ 0 = omega arith in
     let done : solved P c.args.sketch before ≡ answer (Err (Limit v.searches)) mem =
     start ∙ l.invariant.0 ∙ ap (λ n. solve_from c.atoms-atoms.result n l.width v mem) none ∙ ends_without_row c.atoms-atoms.result l.width v mem off in
@@ -42,7 +42,7 @@ returns-in_err-row g c =
     let v = view l.run in
     let before = memory c.args.nodes.now c.args.marks.now c.args.plan.now c.args.rows.now in
     let mem = memory l.nodes l.marks l.plan l.rows in
-    let off : v.problem.target v.current ≡ false = not-true _ (sym c.loop-run-test.ensures) in
+    let off : v.problem.target v.current ≡ false = search rules in
     let free : length l.rows - l.made ≡ suc (length l.rows - (l.made + 1)) = omega arith in
     let start = ap₂ (λ a w. solve_from a (length c.args.rows.now) 0 w before) (sym c.atoms-atoms.ensures) (sym c.new-run.ensures.value) in
     let e = c.in_err-row.field-0.0 in
@@ -68,14 +68,15 @@ returns-in_default g c =
     let v = view l.run in
     let before = memory c.args.nodes.now c.args.marks.now c.args.plan.now c.args.rows.now in
     let mem = memory l.nodes l.marks l.plan l.rows in
-    let off : v.problem.target v.current ≡ false = not-true _ (sym c.loop-run-test.ensures) in
+    let off : v.problem.target v.current ≡ false = search rules in
     let free : length l.rows - l.made ≡ suc (length l.rows - (l.made + 1)) = omega arith in
     let start = ap₂ (λ a w. solve_from a (length c.args.rows.now) 0 w before) (sym c.atoms-atoms.ensures) (sym c.new-run.ensures.value) in
     let row = c.in_ok-row.row in
     let made = told_given _ _ row (sym c.attempt.ensures.reply ∙ c.in_ok-row.was) in
+    let is : row ≡ row_of (l.made + 1) l.width (at_its_end N l.width v mem) = row_at (at_its_end N l.width v mem) made.1 (omega arith) in
     let stands = c.attempt.ensures.run row c.in_ok-row.was in
-    let written = row_written N l.width v mem l.made row l.invariant.1 made.1 made.0 in
-    let last : next_width (found_at N l.width v mem) l.width ≡ None = ap (λ b. next_width b l.width) (sym (c.is_some.ensures ∙ row_found (at_its_end N l.width v mem) (l.made + 1) l.width row made.1)) ∙ sym c.in_default.ensures in
+    let written = row_written N l.width v mem l.made row l.invariant.1 is made.0 in
+    let last : next_width (found_at N l.width v mem) l.width ≡ None = ap (λ b. next_width b l.width) (sym (c.is_some.ensures ∙ row_found (at_its_end N l.width v mem) (l.made + 1) l.width row is)) ∙ sym c.in_default.ensures in
     let done : solved P c.args.sketch before ≡ answer (Ok (report (view_after N l.width v mem) ThirdStub)) (memory_after N l.width v mem) =
     start ∙ l.invariant.0 ∙ ends_with_stub N l.width v mem off (length l.rows - l.made) (length l.rows - (l.made + 1)) free made.0 last in
     let ends = ap₂ (λ a b. Ok (record { rows = a; steps = b; ending = ThirdStub })) (ap (λ n. n + 1) (sym l.invariant.1)) (c.plan_length.ensures ∙ ap (λ w. w.length) stands) in
@@ -96,14 +97,15 @@ loop-run-preserved g c =
     let v = view l.run in
     let before = memory c.args.nodes.now c.args.marks.now c.args.plan.now c.args.rows.now in
     let mem = memory l.nodes l.marks l.plan l.rows in
-    let off : v.problem.target v.current ≡ false = not-true _ (sym c.loop-run-test.ensures) in
+    let off : v.problem.target v.current ≡ false = search rules in
     let free : length l.rows - l.made ≡ suc (length l.rows - (l.made + 1)) = omega arith in
     let row = c.in_ok-row.row in
     let made = told_given _ _ row (sym c.attempt.ensures.reply ∙ c.in_ok-row.was) in
+    let is : row ≡ row_of (l.made + 1) l.width (at_its_end N l.width v mem) = row_at (at_its_end N l.width v mem) made.1 (omega arith) in
     let stands = c.attempt.ensures.run row c.in_ok-row.was in
-    let written = row_written N l.width v mem l.made row l.invariant.1 made.1 made.0 in
+    let written = row_written N l.width v mem l.made row l.invariant.1 is made.0 in
     let j = c.in-Some.next in
-    let next : next_width (found_at N l.width v mem) l.width ≡ Some j = ap (λ b. next_width b l.width) (sym (c.is_some.ensures ∙ row_found (at_its_end N l.width v mem) (l.made + 1) l.width row made.1)) ∙ sym c.in-Some.ensures in
+    let next : next_width (found_at N l.width v mem) l.width ≡ Some j = ap (λ b. next_width b l.width) (sym (c.is_some.ensures ∙ row_found (at_its_end N l.width v mem) (l.made + 1) l.width row is)) ∙ sym c.in-Some.ensures in
     let same : length (set l.rows l.made row) ≡ length l.rows = length-set l.rows l.made row in
     let room : l.made + 1 ≤ length (set l.rows l.made row) = omega arith in (
       l.invariant.0 ∙ goes_on_by N l.width v mem off (length l.rows - l.made) (length l.rows - (l.made + 1)) free made.0 j next
@@ -122,7 +124,7 @@ returns g c =
     let before = memory c.args.nodes.now c.args.marks.now c.args.plan.now c.args.rows.now in
     let mem = memory l.nodes l.marks l.plan l.rows in
     let start = ap₂ (λ a w. solve_from a (length c.args.rows.now) 0 w before) (sym c.atoms-atoms.ensures) (sym c.new-run.ensures.value) in
-    let on : v.problem.target v.current ≡ true = not-false _ (sym c.loop-run-test.ensures) in
+    let on : v.problem.target v.current ≡ true = search rules in
     let done : solved P c.args.sketch before ≡ answer (Ok (report v AtTarget)) mem =
     start ∙ l.invariant.0 ∙ ends_at_target c.atoms-atoms.result l.width v mem (length l.rows - l.made) on in
     let ends = ap₂ (λ a b. Ok (record { rows = a; steps = b; ending = AtTarget })) (sym l.invariant.1) c.plan_length-2.ensures in
