@@ -6,7 +6,7 @@ use Rattle.std.proofs.lemmas.Nat.{shr_below}
 use Rattle.std.proofs.lemmas.List.Sums.{sum_by-cons}
 use Rattle.std.proofs.lemmas.Bool.{lt-ltb}
 use Rattle.domain.specs.Atoms.{word, has, upto, members}
-use Rattle.domain.specs.Words.{bit, total}
+use Rattle.domain.specs.Words.{Short, bit, total}
 use Rattle.domain.specs.Listed.{kept_upto_suc}
 use Rattle.domain.specs.declared.atoms.AtomSet.{AtomSet}
 use Rattle.domain.proofs.Bit.{bit_mod, and_yes}
@@ -91,13 +91,13 @@ length_members s fits =
     ∙ omega (arith, tally_zero (has s), tally_word s 0 (lit< tt) (fits 0 (lit< tt)), tally_word s 1 (lit< tt) (fits 1 (lit< tt)), tally_word s 2 (lit< tt) (fits 2 (lit< tt)), tally_word s 3 (lit< tt) (fits 3 (lit< tt)))
 
 -- the set bits of four words, added up
-pub ones_total : (xs : List ℕ) → length xs ≡ 4 → ((i : ℕ) → get_or xs i 0 < 2 ^ 64) → (sum_by ones xs ≡ total xs) × (total xs ≤ 256)
+pub ones_total : (xs : List ℕ) → length xs ≡ 4 → Short xs → (sum_by ones xs ≡ total xs) × (total xs ≤ 256)
 ones_total [] e fits = absurd (omega arith)
 ones_total (a ∷ []) e fits = absurd (omega arith)
 ones_total (a ∷ b ∷ []) e fits = absurd (omega arith)
 ones_total (a ∷ b ∷ c ∷ []) e fits = absurd (omega arith)
 ones_total (a ∷ b ∷ c ∷ d ∷ []) e fits = (
   omega (arith, sum_by-cons ones a (b ∷ c ∷ d ∷ []), sum_by-cons ones b (c ∷ d ∷ []), sum_by-cons ones c (d ∷ []), sum_by-cons ones d []),
-  omega (arith, ones-le 64 a (fits 0), ones-le 64 b (fits 1), ones-le 64 c (fits 2), ones-le 64 d (fits 3)),
+  omega (arith, ones-le 64 a fits.0, ones-le 64 b fits.1, ones-le 64 c fits.2, ones-le 64 d fits.3),
 )
 ones_total (a ∷ b ∷ c ∷ d ∷ x ∷ xs) e fits = absurd (omega arith)

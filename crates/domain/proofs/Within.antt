@@ -1,7 +1,8 @@
 -- The empty set by its words, and one set within another by what the one has more. Assumes nothing.
-use Rattle.std.proofs.Common.{◌≡◌, ℕ, ◌+◌, ◌*◌, ◌<◌, Bool, true, false, not, ◌&&◌, eqb, Decides, sym, refl, ap, ◌∙◌, ap₂, arith, lit<}
+use Rattle.std.proofs.Common.{◌≡◌, ℕ, zero, suc, ◌+◌, ◌*◌, ◌<◌, Bool, true, false, not, ◌&&◌, eqb, List, [], ◌∷◌, length, get_or, Decides, sym, refl, ap, ◌∙◌, ap₂, arith, lit<}
+use Rattle.std.specs.List.{list_all}
 use lib.Bits.{bit_or, or_add_and, and_le_l, and_le_r}
-use Rattle.std.proofs.lemmas.Bool.{eqb-true, eq-eqb}
+use Rattle.std.proofs.lemmas.Bool.{eqb-true, eq-eqb, and_parts}
 use Rattle.std.proofs.lemmas.Bool.Decides.{same_from_decides, Decides-like}
 use Rattle.domain.specs.Atoms.{word, has, within}
 use Rattle.domain.specs.Words.{bit, overlaid}
@@ -35,6 +36,22 @@ decides_empty s fits = (to, back)
     back f =
         let z = words_from_none s fits f in
         eq-eqb _ 0 (ap₂ bit_or (ap₂ bit_or (ap₂ bit_or (z 0 (lit< tt)) (z 1 (lit< tt))) (z 2 (lit< tt))) (z 3 (lit< tt)))
+
+-- each word is 0 just where there is no member
+pub decides_blank : (s : AtomSet) (r : Bool) → length s.words ≡ 4 → Sized s → r ≡ list_all (λ w. eqb w 0) s.words → Decides r ((a : ℕ) → has s a ≡ false)
+decides_blank s r long fits told = (
+  λ e. none_from_words s (λ i h. each s.words (sym told ∙ e) i (omega arith)),
+  λ f. told ∙ all s.words (λ i h. words_from_none s fits f i (omega arith)),
+)
+  where
+    each : (ws : List ℕ) → list_all (λ w. eqb w 0) ws ≡ true → (i : ℕ) → i < length ws → get_or ws i 0 ≡ 0
+    each [] e i h = absurd (omega arith)
+    each (w ∷ ws) e zero h = eqb-true w 0 (and_parts (eqb w 0) (list_all (λ v. eqb v 0) ws) e).0
+    each (w ∷ ws) e (suc i) h = each ws (and_parts (eqb w 0) (list_all (λ v. eqb v 0) ws) e).1 i (omega arith)
+
+    all : (ws : List ℕ) → ((i : ℕ) → i < length ws → get_or ws i 0 ≡ 0) → list_all (λ w. eqb w 0) ws ≡ true
+    all [] z = refl
+    all (w ∷ ws) z = ap₂ ◌&&◌ (eq-eqb w 0 (z 0 (omega arith))) (all ws (λ i h. z (suc i) (omega arith)))
 
 -- d has what s has and t has not: s is within t just where d has nothing
 pub within_from_empty : (s t d : AtomSet) (r : Bool) → ((a : ℕ) → has d a ≡ (has s a && not (has t a)))

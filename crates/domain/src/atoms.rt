@@ -108,7 +108,7 @@ impl AtomSet {
     pub fn is_empty(&self) -> bool
         ensures { Decides result ((a : ℕ) → has self.now a ≡ false) }
     {
-        self.first(0).is_none()
+        words::is_blank(&self.words)
     }
 
     pub fn is_subset(&self, other: &AtomSet) -> bool

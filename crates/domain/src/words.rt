@@ -1,5 +1,6 @@
 // Four words of 64 bits as one row of 256: bit a is bit a % 64 of word a / 64.
-ghost use Rattle.std.specs.Prelude.{◌≡◌, ℕ, ◌/◌, ◌%◌, ◌^◌, ◌<◌, ◌≤◌, length, MatchOption, slice_index, slice_set};
+ghost use Rattle.std.specs.Prelude.{◌≡◌, ℕ, ◌/◌, ◌%◌, ◌^◌, ◌<◌, ◌≤◌, ◌==◌, length, MatchOption, slice_index, slice_set};
+ghost use Rattle.std.specs.List.{list_all};
 ghost use Rattle.domain.specs.Words.{Short, bit, lowest, total, BlankFrom, FirstSet};
 
 use std::array;
@@ -52,6 +53,14 @@ pub fn first_set(row: &[u64; 4], start: usize) -> Option<usize>
     ensures { MatchOption result (BlankFrom row.now start) (FirstSet row.now start) }
 {
     (start..4).find(|i| row[*i] != 0)
+}
+
+// Whether no bit is set.
+pub fn is_blank(row: &[u64; 4]) -> bool
+    ensures value { result ≡ list_all (λ w. w == 0) row.now }
+    ensures short { Short row.now }
+{
+    row.iter().all(|word| *word == 0)
 }
 
 // How many bits are set.

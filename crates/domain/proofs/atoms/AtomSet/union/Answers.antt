@@ -1,7 +1,7 @@
-use Rattle.std.proofs.Common.{ℕ, List, ap, ◌∙◌, rules}
+use Rattle.std.proofs.Common.{◌≡◌, ℕ, ◌<◌, List, get_or, ap, ◌∙◌, rules, lit<}
 use lib.Bits.{bit_or}
-use Rattle.domain.specs.Atoms.{unite}
-use Rattle.domain.proofs.Sets.{wordwise_is, has_row, has_unite}
+use Rattle.domain.specs.Atoms.{word, unite}
+use Rattle.domain.proofs.Sets.{by_words, wordwise_is, has_row, has_unite}
 use Rattle.domain.proofs.atoms.AtomSet.union.Goals as goal
 
 pub returns : goal.returns
@@ -9,8 +9,12 @@ returns c =
     let s = c.args.self.now in
     let t = c.args.other.now in
     let told = c.zipped.ensures in
-    let same = wordwise_is bit_or s t c.zipped.result told.long (λ i h. let p = told.each i h in search rules) in
+    let row = c.zipped.result in
+    let each : (i : ℕ) → i < 4 → get_or row i 0 ≡ bit_or (word s i) (word t i) =
+    by_words (λ i. get_or row i 0 ≡ bit_or (word s i) (word t i)) (let p = told.each 0 (lit< tt) in search rules)
+    (let p = told.each 1 (lit< tt) in search rules) (let p = told.each 2 (lit< tt) in search rules) (let p = told.each 3 (lit< tt) in search rules) in
+    let same = wordwise_is bit_or s t row told.long each in
     record {
       value = ap (λ (row : List ℕ). record { words = row }) same;
-      membership = λ a. has_row c.zipped.result (unite s t) same a ∙ has_unite s t a;
+      membership = λ a. has_row row (unite s t) same a ∙ has_unite s t a;
     }
