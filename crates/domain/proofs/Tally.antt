@@ -1,5 +1,5 @@
 -- How many numbers below n pass a test, and the number of members by the set bits of the words. Assumes nothing.
-use Rattle.std.proofs.Common.{◌≡◌, ℕ, zero, suc, ◌+◌, ◌*◌, ◌/◌, ◌%◌, ◌^◌, ◌<◌, ◌≤◌, Bool, true, false, cond, eqb, ltb, List, [], ◌∷◌, ◌++◌, length, get_or, sum_by, filter, sym, refl, ap, ◌∙◌, subst, ap₂, add-zero, add-suc, mod-lt, add_comm, one-add, arith, lit<, length-append, pow_pos}
+use Rattle.std.proofs.Common.{◌≡◌, ℕ, zero, suc, ◌+◌, ◌*◌, ◌/◌, ◌%◌, ◌^◌, ◌<◌, ◌≤◌, Bool, true, false, cond, eqb, ltb, List, [], ◌∷◌, ◌++◌, length, sum_by, filter, sym, refl, ap, ◌∙◌, subst, ap₂, add-zero, add-suc, mod-lt, add_comm, one-add, arith, lit<, length-append, pow_pos}
 use lib.Pow.{split}
 use lib.Count.{ones, ones_cat, ones-le}
 use Rattle.std.proofs.lemmas.Nat.{shr_below}
