@@ -107,7 +107,7 @@ impl<'a> Sieve<'a> {
 }
 
 // How many rules the sieve leaves.
-pub fn rules_left(features: &[Feature], rules: &[Rule]) -> usize
+pub(crate) fn rules_left(features: &[Feature], rules: &[Rule]) -> usize
     requires { (length features.now ≤ 8) × (length rules.now ≤ 16) }
     ensures { result ≡ rules_left (kinds_of features.now) rules.now }
 {
